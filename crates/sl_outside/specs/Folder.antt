@@ -1,0 +1,30 @@
+-- What a folder holds, and what its calls answer and leave.
+use Rattle.std.specs.Prelude.{◌≡◌, ◌≢◌, ℕ, List, Option, Some, None, Bool, true, false, Result, Ok, Err, IfSome, IfOk, IsSomeAnd}
+use Rattle.sl_outside.specs.declared.folder.Refused.{Refused}
+use Rattle.sl_outside.specs.declared.folder.Refused.TheVariants.{Failed, Mem}
+
+-- for each name the bytes under it, or nothing where the name isn't there
+abbrev pub Contents : Type 0
+Contents = List ℕ → Option (List ℕ)
+
+-- whether a call tells a fault
+abbrev pub is_fault : {A : Type 0} → Result A Refused → Bool
+is_fault (Ok x) = false
+is_fault (Err Failed) = true
+is_fault (Err Mem) = false
+
+-- a read that isn't refused gives the bytes under the name, where the folder tells what it holds
+abbrev pub ReadGives : Option Contents → List ℕ → Result (Option (List ℕ)) Refused → Type 0
+ReadGives files name result = IfSome files (λ held. IfOk result (λ found. found ≡ held name))
+
+-- all names but this one have what they had
+abbrev pub OthersStay : List ℕ → Contents → Contents → Type 0
+OthersStay name old new = (other : List ℕ) → other ≢ name → new other ≡ old other
+
+-- A write of bytes under a name. After Ok the name has just these bytes, and after a fault it may have any or none; no other
+-- name changes. For want of memory nothing changes. What a folder tells, it goes on telling
+abbrev pub WriteGives : Option Contents → Option Contents → List ℕ → List ℕ → Result (Unit {0}) Refused → Type 0
+WriteGives None after name bytes result = Unit {0}
+WriteGives (Some old) after name bytes (Ok done) = IsSomeAnd after (λ new. (new name ≡ Some bytes) × OthersStay name old new)
+WriteGives (Some old) after name bytes (Err Failed) = IsSomeAnd after (λ new. OthersStay name old new)
+WriteGives (Some old) after name bytes (Err Mem) = after ≡ Some old

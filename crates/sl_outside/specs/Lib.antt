@@ -1,0 +1,6 @@
+pub mod Faults
+pub mod Folder
+pub mod Source
+pub mod Sink
+pub mod Entries
+pub mod Numbered

@@ -1,0 +1,5 @@
+mod disk;
+mod streams;
+
+pub use disk::FolderOnDisk;
+pub use streams::{SinkOnOutput, SourceOnInput};

@@ -1,0 +1,103 @@
+use crate::{Failed, Sink, Source};
+use std::io;
+use std::io::{ErrorKind, Read, Write};
+
+/// A reader as a source. It tells nothing of its bytes, and reads no byte before it is asked for. A read that gives no byte is
+/// the end, and an error is a fault.
+#[derive(Drop)]
+pub struct SourceOnInput<R: Read + Drop> {
+    reader: R,
+    faults: u64,
+}
+
+impl<R: Read + Drop> SourceOnInput<R> {
+    pub fn new(reader: R) -> SourceOnInput<R> {
+        SourceOnInput { reader, faults: 0 }
+    }
+}
+
+impl<R: Read + Drop> Source for SourceOnInput<R> {
+    ghost use Rattle.std.specs.Prelude.{None};
+
+    ghost left = { λ _. None };
+
+    ghost faults = { λ s. s.faults };
+
+    fn next(&mut self) -> Result<Option<u8>, Failed> {
+        match read_byte(&mut self.reader) {
+            Ok(next) => Ok(next),
+            Err(_) => {
+                self.faults = self.faults.saturating_add(1);
+                Err(Failed)
+            }
+        }
+    }
+}
+
+fn read_byte<R: Read>(reader: &mut R) -> io::Result<Option<u8>> {
+    let mut byte = [0u8; 1];
+    for _ in 0..u64::MAX {
+        match reader.read(&mut byte) {
+            Ok(0) => return Ok(None),
+            Ok(_) => return Ok(Some(byte[0])),
+            Err(e) => {
+                if e.kind() != ErrorKind::Interrupted {
+                    return Err(e);
+                }
+            }
+        }
+    }
+    Err(io::Error::from(ErrorKind::Interrupted))
+}
+
+/// A writer as a sink. It tells nothing of its bytes. A write that takes nothing of a piece that isn't empty is a fault, and so
+/// is an error.
+#[derive(Drop)]
+pub struct SinkOnOutput<W: Write + Drop> {
+    writer: W,
+    faults: u64,
+}
+
+impl<W: Write + Drop> SinkOnOutput<W> {
+    pub fn new(writer: W) -> SinkOnOutput<W> {
+        SinkOnOutput { writer, faults: 0 }
+    }
+}
+
+impl<W: Write + Drop> Sink for SinkOnOutput<W> {
+    ghost use Rattle.std.specs.Prelude.{None};
+
+    ghost held = { λ _. None };
+
+    ghost faults = { λ s. s.faults };
+
+    fn put(&mut self, bytes: &[u8]) -> Result<(), Failed> {
+        match write_whole(&mut self.writer, bytes) {
+            Ok(()) => Ok(()),
+            Err(_) => {
+                self.faults = self.faults.saturating_add(1);
+                Err(Failed)
+            }
+        }
+    }
+}
+
+/// Writes all the bytes, in as many writes as it takes.
+pub fn write_whole<W: Write>(writer: &mut W, bytes: &[u8]) -> io::Result<()> {
+    let mut rest = bytes;
+    for _ in 0..u64::MAX {
+        if rest.is_empty() {
+            return Ok(());
+        }
+        match writer.write(rest) {
+            Ok(0) => return Err(io::Error::from(ErrorKind::WriteZero)),
+            Ok(count) => rest = &rest[count..],
+            Err(e) => {
+                if e.kind() != ErrorKind::Interrupted {
+                    return Err(e);
+                }
+            }
+        }
+    }
+    Err(io::Error::from(ErrorKind::Interrupted))
+}

@@ -1,0 +1,60 @@
+ghost use Rattle.std.specs.Prelude.{◌≡◌, List, ℕ, Option};
+ghost use Rattle.sl_outside.specs.Faults.{HasCause};
+ghost use Rattle.sl_outside.specs.Folder.{Contents, ReadGives, WriteGives, is_fault};
+
+use sl_text::{Mem, Row};
+use std::alloc::{AllocError, Global};
+use thiserror::Error;
+
+/// Why a call of a folder was refused.
+#[derive(Clone, Copy, Debug, PartialEq, Eq, Error)]
+pub enum Refused {
+    /// The folder failed: a file couldn't be read or written.
+    #[error("folder fault")]
+    Failed,
+    /// An allocation was refused.
+    #[error("no memory")]
+    Mem,
+}
+
+impl From<AllocError> for Refused {
+    ghost use Rattle.std.specs.Prelude.{◌≡◌};
+    ghost use Rattle.sl_outside.specs.declared.folder.Refused.TheVariants as refused;
+
+    ghost from_gives = { λ _ e. e ≡ refused.Mem };
+
+    fn from(_: AllocError) -> Refused {
+        Refused::Mem
+    }
+}
+
+impl From<Mem> for Refused {
+    ghost use Rattle.std.specs.Prelude.{◌≡◌};
+    ghost use Rattle.sl_outside.specs.declared.folder.Refused.TheVariants as refused;
+
+    ghost from_gives = { λ _ e. e ≡ refused.Mem };
+
+    fn from(_: Mem) -> Refused {
+        Refused::Mem
+    }
+}
+
+/// A folder of files by their names.
+pub trait Folder {
+    /// What it holds, where it tells that.
+    ghost files: { Self → Option Contents };
+
+    /// How often it failed. At 2^64 - 1 the count stands still.
+    ghost faults: { Self → ℕ };
+
+    /// The bytes under a name, or None where the name isn't there.
+    fn read(&mut self, alloc: Global, name: &str) -> Result<Option<Row<u8>>, Refused>
+        ensures found { ReadGives (files self.old) name.now result }
+        ensures unchanged { files self.new ≡ files self.old }
+        ensures cause { HasCause (is_fault result) (faults self.old) (faults self.new) };
+
+    /// Puts bytes under a name, in place of what was there.
+    fn write(&mut self, alloc: Global, name: &str, bytes: &[u8]) -> Result<(), Refused>
+        ensures written { WriteGives (files self.old) (files self.new) name.now bytes.now result }
+        ensures cause { HasCause (is_fault result) (faults self.old) (faults self.new) };
+}

@@ -1,0 +1,95 @@
+ghost use Rattle.std.specs.Prelude.{◌≡◌, IfOk, IfErr, IfNone, IfSome, OnOk, OnErr};
+ghost use Rattle.sl_outside.specs.Entries.{contents_of, stored, StoresAt, StoresAtEnd};
+
+use crate::{Folder, Refused};
+use sl_text::{Row, Text};
+use std::alloc::Global;
+use std::marker::Model;
+
+/// Files in memory, as a folder that never fails.
+#[derive(Drop)]
+pub struct SureFolder {
+    files: Row<(Text, Row<u8>)>,
+}
+
+impl Model for SureFolder {
+    ghost use Rattle.std.specs.Prelude.{List, ℕ};
+
+    ghost Value = { List (List ℕ × List ℕ) };
+
+    ghost view = { λ f. f.files };
+}
+
+impl SureFolder {
+    /// A folder with these files. Where a name stands twice, the first counts.
+    pub fn new(files: Row<(Text, Row<u8>)>) -> SureFolder
+        ensures { result ≡ files }
+    {
+        SureFolder { files }
+    }
+}
+
+impl Folder for SureFolder {
+    ghost use Rattle.std.specs.Prelude.{Some};
+    ghost use Rattle.sl_outside.specs.Entries.{contents_of};
+
+    ghost files = { λ f. Some (contents_of f) };
+
+    ghost faults = { λ _. 0 };
+
+    fn read(&mut self, alloc: Global, name: &str) -> Result<Option<Row<u8>>, Refused> {
+        read_entry(alloc, self.files.as_slice(), name)
+    }
+
+    fn write(&mut self, alloc: Global, name: &str, bytes: &[u8]) -> Result<(), Refused> {
+        write_entry(alloc, &mut self.files, name, bytes)
+    }
+}
+
+fn read_entry(
+    alloc: Global,
+    entries: &[(Text, Row<u8>)],
+    name: &str,
+) -> Result<Option<Row<u8>>, Refused>
+    ensures found { IfOk result (λ found. found ≡ contents_of entries.now name.now) }
+    ensures refused { IfErr result (λ refused. refused ≡ Refused.Mem) }
+{
+    for entry in entries {
+        if entry.0.as_str() == name {
+            return Ok(Some(Row::from_slice(alloc, entry.1.as_slice())?));
+        }
+    }
+    Ok(None)
+}
+
+/// The place of the first entry with a name.
+fn place_of(entries: &[(Text, Row<u8>)], name: &str) -> Option<usize>
+    ensures absent { IfNone result (StoresAtEnd entries.now name.now) }
+    ensures present { IfSome result (StoresAt entries.now name.now) }
+{
+    for (at, entry) in entries.iter().enumerate() {
+        if entry.0.as_str() == name {
+            return Some(at);
+        }
+    }
+    None
+}
+
+fn write_entry(
+    alloc: Global,
+    entries: &mut Row<(Text, Row<u8>)>,
+    name: &str,
+    bytes: &[u8],
+) -> Result<(), Refused>
+    ensures ok { OnOk result (entries.new ≡ stored entries.old name.now bytes.now) }
+    ensures err { OnErr result (entries.new ≡ entries.old) }
+    ensures refused { IfErr result (λ refused. refused ≡ Refused.Mem) }
+{
+    let text = Text::from_str(alloc, name)?;
+    let bytes = Row::from_slice(alloc, bytes)?;
+    match place_of(entries.as_slice(), name) {
+        Some(at) => entries.set(at, (text, bytes)),
+        None => entries.push((text, bytes))?,
+    }
+    Ok(())
+}

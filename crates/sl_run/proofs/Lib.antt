@@ -1,0 +1,7 @@
+pub mod Then
+pub mod Puts
+pub mod Alone
+pub mod Steady
+pub mod Equations
+pub mod Alike
+pub mod Outcomes

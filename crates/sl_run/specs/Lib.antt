@@ -1,0 +1,4 @@
+pub mod Run
+pub mod Outcome
+pub mod Alike
+pub mod Laws

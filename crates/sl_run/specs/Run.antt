@@ -1,0 +1,133 @@
+-- Runs: what a program has done to the outside, what is left to it, and how it goes on. The meanings of Slang, of the core
+-- and of C are made of the parts below.
+use Rattle.std.specs.Prelude.{ℕ, ℤ, zero, suc, ◌+◌, List, [], ◌∷◌, ◌++◌, Option, Some, None, Bool, false, nat_lt, if◌then◌else◌}
+
+-- how a run is over
+pub data Ending : Type 0 where
+  -- the program came to its end, with its exit value
+  Done : (value : ℤ) → Ending
+  -- it halted: the kind of halt, and the file and the line of what halted
+  Halt : (kind file line : ℕ) → Ending
+  -- it needs more turns than it has
+  TurnsSpent : Ending
+  -- a call would make the live frames pass the limit of the stack
+  StackSpent : Ending
+  -- it has no meaning from here on, in a function with this number
+  Stuck : (function : ℕ) → Ending
+
+-- what the outside sees: a byte is put, or the next byte of the input is asked for
+pub data Event : Type 0 where
+  Puts : (byte : ℕ) → Event
+  Asks : Event
+
+-- a run so far: its events in order, the rest of the input, the turns that are left, and how many copies were made
+pub record Trace : Type 0 where
+  pub events : List Event
+  pub rest : List ℕ
+  pub left : ℕ
+  pub copies : ℕ
+
+-- a run before its first event, on this input, with so many turns
+abbrev pub start : List ℕ → ℕ → Trace
+start input turns = record { events = []; rest = input; left = turns; copies = 0 }
+
+-- how a part of a run ends: it went on with a value and a state, or the run is over
+pub data Step (S A : Type 0) : Type 0 where
+  Went : A → Trace → S → Step S A
+  Over : Ending → Trace → Step S A
+
+-- a part of a run over states S, with a value in A
+abbrev pub Act : Type 0 → Type 0 → Type 0
+Act S A = Trace → S → Step S A
+
+-- nothing but a value
+abbrev pub pure : {S A : Type 0} → A → Act S A
+pure x t s = Went x t s
+
+-- the run is over
+abbrev pub over : {S A : Type 0} → Ending → Act S A
+over e t s = Over e t
+
+-- what comes after a part that ended so: nothing where the run is over
+abbrev pub step_then : {S A B : Type 0} → Step S A → (A → Act S B) → Step S B
+step_then (Went x t s) go = go x t s
+step_then (Over e t) go = Over e t
+
+-- one part, and then another that has its value
+infixl 10 ◌>>=◌
+abbrev pub ◌>>=◌ : {S A B : Type 0} → Act S A → (A → Act S B) → Act S B
+(a >>= go) t s = step_then (a t s) go
+
+-- one part, and then another
+infixl 10 ◌>>◌
+abbrev pub ◌>>◌ : {S A B : Type 0} → Act S A → Act S B → Act S B
+(a >> b) = a >>= (λ _. b)
+
+-- one of two
+abbrev pub choose : {S A : Type 0} → Bool → Act S A → Act S A → Act S A
+choose b x y = if b then x else y
+
+-- a byte is put
+abbrev pub put : {S : Type 0} → ℕ → Act S (Unit {0})
+put b t s = Went tt (record t { events = t.events ++ Puts b ∷ [] }) s
+
+-- bytes are put, one after another
+abbrev pub put_all : {S : Type 0} → List ℕ → Act S (Unit {0})
+put_all [] = pure tt
+put_all (b ∷ bs) = put b >> put_all bs
+
+-- the first byte of an input, if there is one
+abbrev pub first_of : List ℕ → Option ℕ
+first_of [] = None
+first_of (b ∷ bs) = Some b
+
+-- the input after its first byte
+abbrev pub rest_of : List ℕ → List ℕ
+rest_of [] = []
+rest_of (b ∷ bs) = bs
+
+-- the next byte of the input is asked for and taken, if there is one
+abbrev pub get : {S : Type 0} → Act S (Option ℕ)
+get t s = Went (first_of t.rest) (record t { events = t.events ++ Asks ∷ []; rest = rest_of t.rest }) s
+
+-- so many copies are made
+abbrev pub copy : {S : Type 0} → ℕ → Act S (Unit {0})
+copy n t s = Went tt (record t { copies = t.copies + n }) s
+
+-- one turn, where so many are left
+abbrev pub turn_at : {S : Type 0} → ℕ → Act S (Unit {0})
+turn_at zero t s = Over TurnsSpent t
+turn_at (suc n) t s = Went tt (record t { left = n }) s
+
+-- one turn, where one is left
+abbrev pub turn : {S : Type 0} → Act S (Unit {0})
+turn t s = turn_at t.left t s
+
+-- whether so many live bytes pass a limit. With no limit none do
+abbrev pub passes : Option ℕ → ℕ → Bool
+passes None live = false
+passes (Some limit) live = nat_lt limit live
+
+-- so many bytes are live from here on, where that doesn't pass the limit
+abbrev pub keep_within : {S : Type 0} → Option ℕ → ℕ → Act S (Unit {0})
+keep_within limit live = choose (passes limit live) (over StackSpent) (pure tt)
+
+-- goes round while the body says so, at most so often; each round takes a turn
+abbrev pub loop_within : {S : Type 0} → ℕ → Act S Bool → Act S (Unit {0})
+loop_within zero body = over TurnsSpent
+loop_within (suc n) body = turn >> (body >>= (λ again. choose again (loop_within n body) (pure tt)))
+
+-- goes round while the body says so. Each round takes a turn, so the turns left are bound enough: with no bound in sight a
+-- loop is a turn, the body, and the loop again (`loop_is` of proofs/Equations.antt, for a body that is `Steady`)
+abbrev pub loop : {S : Type 0} → Act S Bool → Act S (Unit {0})
+loop body t s = loop_within t.left body t s
+
+-- a call of f on x, where calls nest at most so deep; each takes a turn. The bodies say what is done, given what calls do
+abbrev pub calls_within : {S F A B : Type 0} → ℕ → ((F → A → Act S B) → F → A → Act S B) → F → A → Act S B
+calls_within zero bodies f x = over TurnsSpent
+calls_within (suc n) bodies f x = turn >> bodies (calls_within n bodies) f x
+
+-- a call of f on x. Each call takes a turn, so the turns left are bound enough: with no bound in sight a call is a turn and
+-- the body (`calls_are` of proofs/Equations.antt, for bodies that are `Respects`)
+abbrev pub calls : {S F A B : Type 0} → ((F → A → Act S B) → F → A → Act S B) → F → A → Act S B
+calls bodies f x t s = calls_within t.left bodies f x t s

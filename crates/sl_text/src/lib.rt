@@ -1,0 +1,14 @@
+//! The base of every crate: the lists and texts that trees are made of, places in files, the broken rules, and want of
+//! memory.
+#![tactic(auto)]
+
+mod fault;
+mod place;
+mod rule;
+mod text;
+
+pub use fault::{Broken, Fault, Mem};
+pub use place::Span;
+pub use rule::{Phase, Rule};
+pub use sqlite_items::{Boxed, Items as Row};
+pub use text::Text;
