@@ -12,3 +12,6 @@ pub use place::Span;
 pub use rule::{Phase, Rule};
 pub use sqlite_items::{Boxed, Items as Row};
 pub use text::Text;
+
+#[cfg(test)]
+mod tests;
