@@ -56,12 +56,14 @@ stored_others (entry ∷ entries) name bytes other h = at (stored_others entries
 
 -- bytes are stored at the first entry with the name
 pub stores_at : (entries : List (List ℕ × List ℕ)) (name : List ℕ) (at : ℕ) (entry : List ℕ × List ℕ) → at < length entries → entry ≡ get_or entries at entry → bytes_eq entry.0 name ≡ true → ((bytes : List ℕ) → stored entries name bytes ≡ take at entries ++ stored (drop at entries) name bytes) → StoresAt entries name at
-stores_at entries name at entry within is same before =
-    (within, λ bytes.
+stores_at entries name at entry within is same before = (
+  within,
+  λ bytes.
       before bytes
       ∙ ap (λ rest. take at entries ++ stored rest name bytes) (drop-cons entries at entry within ∙ ap (λ e. e ∷ drop (suc at) entries) (sym is))
       ∙ ap (λ t. take at entries ++ cond t ((name, bytes) ∷ drop (suc at) entries) (entry ∷ stored (drop (suc at) entries) name bytes)) same
-      ∙ sym (set_split entries at (name, bytes) within))
+      ∙ sym (set_split entries at (name, bytes) within),
+)
 
 -- a list of entries that stores bytes as it should is a folder that was written to
 pub writes : (old new : List (List ℕ × List ℕ)) (name bytes : List ℕ) (result : Result (Unit {0}) Refused) → OnOk result (new ≡ stored old name bytes) → OnErr result (new ≡ old) → IfErr result (λ refused. refused ≡ Mem) → WriteGives (Some (contents_of old)) (Some (contents_of new)) name bytes result

@@ -22,7 +22,8 @@ abbrev pub OthersStay : List ℕ → Contents → Contents → Type 0
 OthersStay name old new = (other : List ℕ) → other ≢ name → new other ≡ old other
 
 -- A write of bytes under a name. After Ok the name has just these bytes, and after a fault it may have any or none; no other
--- name changes. For want of memory nothing changes. What a folder tells, it goes on telling
+-- name changes. For want of memory nothing changes. What a folder
+-- tells, it goes on telling; of one that tells nothing, nothing is said
 abbrev pub WriteGives : Option Contents → Option Contents → List ℕ → List ℕ → Result (Unit {0}) Refused → Type 0
 WriteGives None after name bytes result = Unit {0}
 WriteGives (Some old) after name bytes (Ok done) = IsSomeAnd after (λ new. (new name ≡ Some bytes) × OthersStay name old new)

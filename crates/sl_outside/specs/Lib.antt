@@ -4,3 +4,4 @@ pub mod Source
 pub mod Sink
 pub mod Entries
 pub mod Numbered
+pub mod Adapters

@@ -1,14 +1,28 @@
 -- What putting a piece on a sink answers and leaves.
-use Rattle.std.specs.Prelude.{◌≡◌, ℕ, List, ◌++◌, Option, Some, None, Result, Ok, Err}
+use Rattle.std.specs.Prelude.{◌≡◌, ℕ, List, ◌++◌, Option, Some, None, Result, Ok, Err, is_err}
 use Rattle.sl_outside.specs.declared.source.Failed.{Failed}
+use Rattle.sl_outside.specs.Faults.{HasCause}
 
--- the piece begins with the front
-abbrev pub IsFront : List ℕ → List ℕ → Type 0
-IsFront front piece = (more : List ℕ) × (piece ≡ front ++ more)
+-- the list begins with this prefix
+abbrev pub IsPrefix : List ℕ → List ℕ → Type 0
+IsPrefix prefix list = (more : List ℕ) × (list ≡ prefix ++ more)
 
--- After Ok the sink holds the piece behind what it held, and after a fault some front of the piece. What a sink tells, it goes
--- on telling
+-- After Ok the sink holds the piece behind what it held, and after a fault some prefix of the piece behind it. What a sink tells,
+-- it goes on telling; of one that tells nothing, nothing is said
 abbrev pub PutGives : Option (List ℕ) → Option (List ℕ) → List ℕ → Result (Unit {0}) Failed → Type 0
 PutGives None after piece result = Unit {0}
 PutGives (Some held) after piece (Ok done) = after ≡ Some (held ++ piece)
-PutGives (Some held) after piece (Err failed) = (front : List ℕ) × IsFront front piece × (after ≡ Some (held ++ front))
+PutGives (Some held) after piece (Err failed) = (prefix : List ℕ) × IsPrefix prefix piece × (after ≡ Some (held ++ prefix))
+
+-- a sink as clauses see it: what it holds, where it tells that, and how often it failed
+pub record SinkState : Type 0 where
+  pub held : Option (List ℕ)
+  pub faults : ℕ
+
+-- a piece was put, by one call that answered this
+abbrev pub Put : List ℕ → SinkState → SinkState → Result (Unit {0}) Failed → Type 0
+Put piece before after result = PutGives before.held after.held piece result × HasCause (is_err result) before.faults after.faults
+
+-- a piece was put, by one call, whatever that answered
+abbrev pub Tried : List ℕ → SinkState → SinkState → Type 0
+Tried piece before after = (result : Result (Unit {0}) Failed) × Put piece before after result

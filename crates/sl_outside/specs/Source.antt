@@ -3,7 +3,8 @@ use Rattle.std.specs.Prelude.{◌≡◌, ℕ, List, drop, slice_get, Option, Som
 use Rattle.sl_outside.specs.declared.source.Failed.{Failed}
 
 -- The first of the bytes that are left comes and is taken, and None comes exactly where none is left. After a fault the same
--- bytes are left. What a source tells, it goes on telling
+-- bytes are left. What a source tells, it goes on telling; of one that tells
+-- nothing, nothing is said
 abbrev pub NextGives : Option (List ℕ) → Option (List ℕ) → Result (Option ℕ) Failed → Type 0
 NextGives None after result = Unit {0}
 NextGives (Some left) after (Ok next) = (next ≡ slice_get left 0) × (after ≡ Some (drop 1 left))

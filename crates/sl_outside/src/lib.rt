@@ -13,3 +13,6 @@ pub use folder::{Folder, Refused};
 pub use memory::{MemorySink, SureFolder, SureSource};
 pub use sink::Sink;
 pub use source::{Failed, Source};
+
+#[cfg(test)]
+mod tests;

@@ -1,11 +1,13 @@
+ghost use Rattle.std.specs.Prelude.{◌≡◌};
+ghost use Rattle.sl_outside.specs.Adapters.{disk_faults};
+
 use super::streams::write_whole;
 use crate::{Folder, Refused};
 use sl_text::Row;
 use std::alloc::{AllocError, Global};
-use std::fs;
-use std::io;
 use std::io::{ErrorKind, Read};
 use std::rt::Files;
+use std::{fs, io};
 
 /// A file with more bytes is a fault.
 const MAX_FILE_LEN: usize = 1 << 30;
@@ -14,23 +16,27 @@ const BUFFER_LEN: usize = 8192;
 
 /// The files of the system as a folder, whose names are paths. It tells nothing of what it holds. A file that doesn't exist is
 /// None; one that can't be opened, read or written whole, or that has more than 2^30 bytes, is a fault.
+#[derive(Drop)]
 pub struct FolderOnDisk<'a, R: Files> {
     rt: &'a R,
     faults: u64,
 }
 
 impl<'a, R: Files> FolderOnDisk<'a, R> {
-    pub fn new(rt: &'a R) -> FolderOnDisk<'a, R> {
+    pub fn new(rt: &'a R) -> FolderOnDisk<'a, R>
+        ensures no_faults { disk_faults result ≡ 0 }
+    {
         FolderOnDisk { rt, faults: 0 }
     }
 }
 
 impl<'a, R: Files> Folder for FolderOnDisk<'a, R> {
     ghost use Rattle.std.specs.Prelude.{None};
+    ghost use Rattle.sl_outside.specs.Adapters.{disk_faults};
 
     ghost files = { λ _. None };
 
-    ghost faults = { λ f. f.faults };
+    ghost faults = { disk_faults };
 
     fn read(&mut self, alloc: Global, name: &str) -> Result<Option<Row<u8>>, Refused> {
         let found = read_file(alloc, self.rt, name);

@@ -1,3 +1,6 @@
+ghost use Rattle.std.specs.Prelude.{◌≡◌};
+ghost use Rattle.sl_outside.specs.Adapters.{input_reader, input_faults, output_writer, output_faults};
+
 use crate::{Failed, Sink, Source};
 use std::io;
 use std::io::{ErrorKind, Read, Write};
@@ -11,17 +14,21 @@ pub struct SourceOnInput<R: Read + Drop> {
 }
 
 impl<R: Read + Drop> SourceOnInput<R> {
-    pub fn new(reader: R) -> SourceOnInput<R> {
+    pub fn new(reader: R) -> SourceOnInput<R>
+        ensures reader { input_reader result ≡ reader }
+        ensures no_faults { input_faults result ≡ 0 }
+    {
         SourceOnInput { reader, faults: 0 }
     }
 }
 
 impl<R: Read + Drop> Source for SourceOnInput<R> {
     ghost use Rattle.std.specs.Prelude.{None};
+    ghost use Rattle.sl_outside.specs.Adapters.{input_faults};
 
     ghost left = { λ _. None };
 
-    ghost faults = { λ s. s.faults };
+    ghost faults = { input_faults };
 
     fn next(&mut self) -> Result<Option<u8>, Failed> {
         match read_byte(&mut self.reader) {
@@ -59,17 +66,21 @@ pub struct SinkOnOutput<W: Write + Drop> {
 }
 
 impl<W: Write + Drop> SinkOnOutput<W> {
-    pub fn new(writer: W) -> SinkOnOutput<W> {
+    pub fn new(writer: W) -> SinkOnOutput<W>
+        ensures writer { output_writer result ≡ writer }
+        ensures no_faults { output_faults result ≡ 0 }
+    {
         SinkOnOutput { writer, faults: 0 }
     }
 }
 
 impl<W: Write + Drop> Sink for SinkOnOutput<W> {
     ghost use Rattle.std.specs.Prelude.{None};
+    ghost use Rattle.sl_outside.specs.Adapters.{output_faults};
 
     ghost held = { λ _. None };
 
-    ghost faults = { λ s. s.faults };
+    ghost faults = { output_faults };
 
     fn put(&mut self, bytes: &[u8]) -> Result<(), Failed> {
         match write_whole(&mut self.writer, bytes) {

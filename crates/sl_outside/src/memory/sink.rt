@@ -21,9 +21,9 @@ pub struct MemorySink {
 
 impl Model for MemorySink {
     ghost use Rattle.std.specs.Prelude.{◌≤◌, length, vec_capacity};
-    ghost use Rattle.sl_outside.specs.Numbered.{SinkState};
+    ghost use Rattle.sl_outside.specs.Numbered.{MemorySinkState};
 
-    ghost Value = { SinkState };
+    ghost Value = { MemorySinkState };
 
     ghost view = { λ s. record { held = s.bytes.items; room = s.room; failing = s.failing; calls = s.calls; faults = s.faults } };
 
