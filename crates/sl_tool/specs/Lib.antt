@@ -1,1 +1,10 @@
 pub mod Straight
+pub mod StraightReading
+pub mod Meaning
+pub mod Words
+pub mod Texts
+pub mod Answer
+pub mod Outside
+pub mod Promise
+pub mod Stopping
+pub mod Parts

@@ -1,4 +1,46 @@
 //! The tool: what the words after the program's name ask for, done on a folder, an input and two outputs.
 #![tactic(auto)]
 
+ghost use Rattle.std.specs.Prelude.{map, string_bytes};
+ghost use Rattle.sl_tool.specs.Outside.{outside};
+ghost use Rattle.sl_tool.specs.Promise.{Promise};
+
+mod running;
+mod status;
 mod straight;
+mod telling;
+mod words;
+
+use running::run_file;
+use sl_outside::{Folder, Sink, Source};
+pub use status::Status;
+use std::alloc::Global;
+use telling::{tell_stop, tell_usage};
+use words::file_to_run;
+
+/// Does what the words after the program's name ask for. The program's standard output is `out`, and its standard error is
+/// `note`.
+pub fn slang<F: Folder, S: Source, K: Sink, N: Sink>(
+    alloc: Global,
+    words: &Vec<String>,
+    folder: &mut F,
+    input: &mut S,
+    out: &mut K,
+    note: &mut N,
+) -> Status
+    ensures { Promise (map string_bytes words.now.items)
+        (outside (F.files folder.old) (F.faults folder.old) (S.left input.old) (S.faults input.old) (K.held out.old) (K.faults out.old) (N.held note.old) (N.faults note.old))
+        (outside (F.files folder.new) (F.faults folder.new) (S.left input.new) (S.faults input.new) (K.held out.new) (K.faults out.new) (N.held note.new) (N.faults note.new))
+        result }
+{
+    let Some(file) = file_to_run(words.as_slice()) else {
+        return tell_usage(note);
+    };
+    match run_file(alloc, file, folder, out) {
+        Ok(value) => Status::Exit(value),
+        Err(stop) => tell_stop(alloc, file, stop, note),
+    }
+}
+
+#[cfg(test)]
+mod tests;

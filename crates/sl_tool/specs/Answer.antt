@@ -1,0 +1,94 @@
+-- The tool as one function: what a call answers and leaves where nothing fails and memory is enough.
+use Rattle.std.specs.Prelude.{ℕ, ℤ, pos, negsuc, List, [], Option, Some, None, nat_le, if◌then◌else◌}
+use Rattle.sl_outside.specs.Folder.{Contents}
+use Rattle.sl_run.specs.Run.{Ending, Done, Halt, TurnsSpent, StackSpent, Stuck}
+use Rattle.sl_run.specs.Outcome.{Outcome, printed}
+use Rattle.sl_tool.specs.declared.status.Status.{Status}
+use Rattle.sl_tool.specs.declared.status.Status.TheVariants as status
+use Rattle.sl_tool.specs.declared.straight.Straight.{Straight}
+use Rattle.sl_tool.specs.StraightReading.{straight_of}
+use Rattle.sl_tool.specs.Meaning.{run_of}
+use Rattle.sl_tool.specs.Words.{Command, Run, command_of}
+use Rattle.sl_tool.specs.Texts.{usage_line, no_file_line, turns_spent_line, exit_value_line, not_built_line}
+
+-- the exit status of the process
+abbrev pub code_of : Status → ℕ
+code_of (status.Exit value) = value
+code_of status.Usage = 64
+code_of status.Broken = 65
+code_of status.Halted = 66
+code_of status.TurnsSpent = 67
+code_of status.StackSpent = 68
+code_of status.ExitValue = 69
+code_of status.NotC = 70
+code_of status.Stuck = 71
+code_of status.NoFile = 72
+code_of status.FolderFault = 73
+code_of status.InputFault = 74
+code_of status.SinkFault = 75
+code_of status.Memory = 76
+code_of status.NotBuilt = 77
+
+-- a call's status, the files after it, the bytes that it put on `out` and on `note`, and the rest of the input
+pub record Answer : Type 0 where
+  pub status : Status
+  pub files : Contents
+  pub out : List ℕ
+  pub note : List ℕ
+  pub rest : List ℕ
+
+-- how many turns a run has where no option says it
+abbrev pub default_turns : ℕ
+default_turns = 1000000000
+
+-- the status of a run that ended so: exit values are 0 to 63
+abbrev pub exit_status : ℤ → Status
+exit_status (pos value) = if nat_le value 63 then status.Exit value else status.ExitValue
+exit_status (negsuc below) = status.ExitValue
+
+abbrev pub run_status : Ending → Status
+run_status (Done value) = exit_status value
+run_status (Halt kind file line) = status.Halted
+run_status TurnsSpent = status.TurnsSpent
+run_status StackSpent = status.StackSpent
+run_status (Stuck function) = status.Stuck
+
+-- the line of a run that ended so. No straight program halts, passes a limit of the stack or gets stuck: those lines come with
+-- the forms that do
+abbrev pub exit_line : ℤ → List ℕ
+exit_line (pos value) = if nat_le value 63 then [] else exit_value_line (pos value)
+exit_line (negsuc below) = exit_value_line (negsuc below)
+
+abbrev pub run_line : Ending → List ℕ
+run_line (Done value) = exit_line value
+run_line TurnsSpent = turns_spent_line
+run_line (Halt kind file line) = []
+run_line StackSpent = []
+run_line (Stuck function) = []
+
+-- a command that is rejected puts its line on `note`, puts nothing on `out` and takes nothing of the input
+abbrev pub rejected : Status → List ℕ → Contents → List ℕ → Answer
+rejected status line files input = record { status = status; files = files; out = []; note = line; rest = input }
+
+-- a run that ended so
+abbrev pub ran : Outcome → Contents → Answer
+ran run files = record { status = run_status run.ending; files = files; out = printed run.events; note = run_line run.ending; rest = run.rest }
+
+-- `run` of what was read: a straight program, or something that isn't built yet
+abbrev pub answer_to_program : Option Straight → Contents → List ℕ → Answer
+answer_to_program None files input = rejected status.NotBuilt not_built_line files input
+answer_to_program (Some program) files input = ran (run_of program input default_turns) files
+
+-- `run` of a file that has these bytes, or isn't there
+abbrev pub answer_to_file : List ℕ → Option (List ℕ) → Contents → List ℕ → Answer
+answer_to_file file None files input = rejected status.NoFile (no_file_line file) files input
+answer_to_file file (Some bytes) files input = answer_to_program (straight_of bytes) files input
+
+-- the answer to a command, or to words that have no reading
+abbrev pub answer_to : Option Command → Contents → List ℕ → Answer
+answer_to None files input = rejected status.Usage usage_line files input
+answer_to (Some (Run file)) files input = answer_to_file file (files file) files input
+
+-- the answer to these words, over these files and this input
+unfoldable pub answer_of : List (List ℕ) → Contents → List ℕ → Answer
+answer_of words files input = answer_to (command_of words) files input

@@ -1,0 +1,9 @@
+-- What a refused call of the folder stops a file's run for.
+use Rattle.sl_outside.specs.declared.folder.Refused.{Refused}
+use Rattle.sl_outside.specs.declared.folder.Refused.TheVariants as refused
+use Rattle.sl_tool.specs.declared.running.Stop.{Stop}
+use Rattle.sl_tool.specs.declared.running.Stop.TheVariants as stop
+
+abbrev pub stop_of : Refused → Stop
+stop_of refused.Failed = stop.Folder
+stop_of refused.Mem = stop.Mem

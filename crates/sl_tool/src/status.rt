@@ -1,0 +1,62 @@
+ghost use Rattle.std.specs.Prelude.{◌≡◌};
+ghost use Rattle.sl_tool.specs.Answer.{code_of};
+
+/// How a call of the tool ended.
+#[derive(Clone, Copy, Debug, PartialEq, Eq)]
+pub enum Status {
+    /// A run ended with this exit value, from 0 to 63. 0 for every other command that did its work.
+    Exit(u8),
+    /// The words have no reading.
+    Usage,
+    /// The sources break a rule.
+    Broken,
+    /// The run ended in a halt.
+    Halted,
+    /// The run needs more turns than it has.
+    TurnsSpent,
+    /// A call would make the live frames pass the stack limit.
+    StackSpent,
+    /// The run ended with an exit value outside 0 to 63.
+    ExitValue,
+    /// The C file breaks a rule.
+    NotC,
+    /// The C file has no meaning at some point of its run.
+    Stuck,
+    /// A named file isn't there.
+    NoFile,
+    /// The folder failed.
+    FolderFault,
+    /// The input failed.
+    InputFault,
+    /// An output failed.
+    SinkFault,
+    /// An allocation was refused.
+    Memory,
+    /// The sources have forms that are not built yet.
+    NotBuilt,
+}
+
+impl Status {
+    /// The exit status of the process.
+    pub fn code(&self) -> u8
+        ensures { result ≡ code_of self.now }
+    {
+        match self {
+            Status::Exit(value) => *value,
+            Status::Usage => 64,
+            Status::Broken => 65,
+            Status::Halted => 66,
+            Status::TurnsSpent => 67,
+            Status::StackSpent => 68,
+            Status::ExitValue => 69,
+            Status::NotC => 70,
+            Status::Stuck => 71,
+            Status::NoFile => 72,
+            Status::FolderFault => 73,
+            Status::InputFault => 74,
+            Status::SinkFault => 75,
+            Status::Memory => 76,
+            Status::NotBuilt => 77,
+        }
+    }
+}

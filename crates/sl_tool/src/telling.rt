@@ -1,0 +1,69 @@
+// The line of a status on `note`.
+ghost use Rattle.std.specs.Prelude.{◌≡◌};
+ghost use Rattle.sl_tool.specs.Texts.{usage_line};
+ghost use Rattle.sl_tool.specs.declared.status.Status.TheVariants as status;
+ghost use Rattle.sl_outside.specs.Sink.{Tried};
+ghost use Rattle.sl_tool.specs.Parts.{Tells, TellsStop};
+
+use crate::Status;
+use crate::running::Stop;
+use sl_outside::Sink;
+use std::alloc::Global;
+
+const USAGE: &[u8] = b"usage: check, emit, run, step, stack or sample\n";
+
+const FOLDER_FAULT: &[u8] = b"folder fault\n";
+
+const OUTPUT_FAULT: &[u8] = b"output fault\n";
+
+const NO_MEMORY: &[u8] = b"no memory\n";
+
+const NOT_BUILT: &[u8] = b"not built\n";
+
+/// Tries the line of a status from 73 to 77, whose refusal changes nothing.
+fn try_line<N: Sink>(note: &mut N, status: Status, line: &[u8]) -> Status
+    ensures tried { Tried line.now (record { held = N.held note.old; faults = N.faults note.old }) (record { held = N.held note.new; faults = N.faults note.new }) }
+    ensures status { result ≡ status }
+{
+    let _ = note.put(line);
+    status
+}
+
+/// Puts the line of a status from 64 to 72. Where it is refused, the status is that of a fault of an output.
+fn put_line<N: Sink>(note: &mut N, status: Status, line: &[u8]) -> Status
+    ensures { Tells line.now status (record { held = N.held note.old; faults = N.faults note.old }) (record { held = N.held note.new; faults = N.faults note.new }) result }
+{
+    match note.put(line) {
+        Ok(()) => status,
+        Err(_) => try_line(note, Status::SinkFault, OUTPUT_FAULT),
+    }
+}
+
+/// Tells that the words have no reading.
+pub fn tell_usage<N: Sink>(note: &mut N) -> Status
+    ensures { Tells usage_line status.Usage (record { held = N.held note.old; faults = N.faults note.old }) (record { held = N.held note.new; faults = N.faults note.new }) result }
+{
+    put_line(note, Status::Usage, USAGE)
+}
+
+/// Tells why a file was not run to its end.
+pub fn tell_stop<N: Sink>(alloc: Global, file: &str, stop: Stop, note: &mut N) -> Status
+    ensures { TellsStop file.now stop (record { held = N.held note.old; faults = N.faults note.old }) (record { held = N.held note.new; faults = N.faults note.new }) result }
+{
+    match stop {
+        Stop::NoFile => tell_no_file(alloc, file, note),
+        Stop::NotBuilt => try_line(note, Status::NotBuilt, NOT_BUILT),
+        Stop::Folder => try_line(note, Status::FolderFault, FOLDER_FAULT),
+        Stop::Sink => try_line(note, Status::SinkFault, OUTPUT_FAULT),
+        Stop::Mem => try_line(note, Status::Memory, NO_MEMORY),
+    }
+}
+
+fn tell_no_file<N: Sink>(alloc: Global, file: &str, note: &mut N) -> Status
+    ensures { TellsStop file.now Stop.NoFile (record { held = N.held note.old; faults = N.faults note.old }) (record { held = N.held note.new; faults = N.faults note.new }) result }
+{
+    match format!(in alloc; "no file {file}\n") {
+        Ok(line) => put_line(note, Status::NoFile, line.as_bytes()),
+        Err(_) => try_line(note, Status::Memory, NO_MEMORY),
+    }
+}

@@ -1,0 +1,101 @@
+// Calls of the tool over memory: what comes out, put by put.
+use super::*;
+use sl_outside::{MemorySink, SureFolder, SureSource};
+use sl_text::{Row, Text};
+use std::alloc::{AllocError, Global};
+use std::test::Fail;
+
+const HELLO: &[u8] =
+    b"// #Sireum\nimport org.sireum._\nobject X extends App {\n  def main(args: ISZ[String]): Z = {\n    println(\"hello\")\n    println(\"\")\n    return 63\n  }\n}";
+
+const USAGE: &[u8] = b"usage: check, emit, run, step, stack or sample\n";
+
+/// A number of a put that fails: there are fewer.
+const NONE: u64 = 1000;
+
+/// A status, and what is on `out` and on `note`.
+type Told = (u8, &'static [u8], &'static [u8]);
+
+fn words_of(alloc: Global, words: &[&str]) -> Result<Vec<String>, AllocError> {
+    let mut all = Vec::new(alloc);
+    for word in words {
+        all.push(word.to_string(alloc)?)?;
+    }
+    Ok(all)
+}
+
+fn folder_of(alloc: Global) -> Result<SureFolder, Fail> {
+    let mut files = Row::new(alloc);
+    files.push((
+        Text::from_str(alloc, "hello")?,
+        Row::from_slice(alloc, HELLO)?,
+    ))?;
+    files.push((Text::from_str(alloc, "other")?, Row::new(alloc)))?;
+    Ok(SureFolder::new(files))
+}
+
+fn sink_of(alloc: Global, failing: u64) -> Result<MemorySink, Fail> {
+    let mut numbers = Row::new(alloc);
+    numbers.push(failing)?;
+    Ok(MemorySink::new(alloc, 100, numbers)?)
+}
+
+/// Calls the tool with these words, where the put on `out` and on `note` with these numbers fail.
+fn ends_so(
+    alloc: Global,
+    words: &[&str],
+    failing_out: u64,
+    failing_note: u64,
+    told: Told,
+) -> Result<bool, Fail> {
+    let words = words_of(alloc, words)?;
+    let mut folder = folder_of(alloc)?;
+    let mut input = SureSource::new(Row::new(alloc));
+    let mut out = sink_of(alloc, failing_out)?;
+    let mut note = sink_of(alloc, failing_note)?;
+    let status = slang(alloc, &words, &mut folder, &mut input, &mut out, &mut note);
+    Ok(status.code() == told.0 && out.bytes() == told.1 && note.bytes() == told.2)
+}
+
+#[test]
+fn runs_print_byte_by_byte(rt: HostRuntime) -> Result<(), Fail> {
+    let alloc = rt.alloc();
+    let words = ["run", "hello"];
+    assert!(rt; ends_so(alloc, &words, NONE, NONE, (63, b"hello\n\n", b""))?);
+    assert!(rt; ends_so(alloc, &words, 1, NONE, (75, b"", b"output fault\n"))?);
+    assert!(rt; ends_so(alloc, &words, 6, NONE, (75, b"hello", b"output fault\n"))?);
+    assert!(rt; ends_so(alloc, &words, 7, 1, (75, b"hello\n", b""))?);
+    assert!(rt; ends_so(alloc, &words, 8, NONE, (63, b"hello\n\n", b""))?);
+    Ok(())
+}
+
+#[test]
+fn refusals_tell_their_line(rt: HostRuntime) -> Result<(), Fail> {
+    let alloc = rt.alloc();
+    let other = ["run", "other"];
+    assert!(rt; ends_so(alloc, &other, NONE, NONE, (77, b"", b"not built\n"))?);
+    assert!(rt; ends_so(alloc, &other, NONE, 1, (77, b"", b""))?);
+    let missing = ["run", "missing"];
+    assert!(rt; ends_so(alloc, &missing, NONE, NONE, (72, b"", b"no file missing\n"))?);
+    assert!(rt; ends_so(alloc, &missing, NONE, 1, (75, b"", b"output fault\n"))?);
+    Ok(())
+}
+
+#[test]
+fn other_words_have_no_reading(rt: HostRuntime) -> Result<(), Fail> {
+    let alloc = rt.alloc();
+    let lines: [&[&str]; 7] = [
+        &[],
+        &["run"],
+        &["run", ""],
+        &["run", "-"],
+        &["run", "-x"],
+        &["walk", "hello"],
+        &["run", "hello", "other"],
+    ];
+    for words in lines {
+        assert!(rt; ends_so(alloc, words, NONE, NONE, (64, b"", USAGE))?);
+        assert!(rt; ends_so(alloc, words, NONE, 1, (75, b"", b"output fault\n"))?);
+    }
+    Ok(())
+}
