@@ -1,5 +1,8 @@
--- What the adapters over the system hold: what they stand over, and how often it failed.
-use Rattle.std.specs.Prelude.{ℕ}
+-- What the adapters over the system hold: what they stand over, and how often it failed. And what reading a byte and writing
+-- bytes whole do to what they stand over.
+use Rattle.std.specs.Prelude.{ℕ, List, [], ◌∷◌, Option, Some, None, Result, Ok, Err}
+use Rattle.std.specs.Io.KnownBytes.{Keeps, Appends, Consumes, IsAtEnd}
+use Rattle.sl_outside.specs.Sink.{IsPrefix}
 use Rattle.sl_outside.specs.declared.adapters.disk.FolderOnDisk.{FolderOnDisk}
 use Rattle.sl_outside.specs.declared.adapters.streams.SourceOnInput.{SourceOnInput}
 use Rattle.sl_outside.specs.declared.adapters.streams.SinkOnOutput.{SinkOnOutput}
@@ -18,3 +21,16 @@ output_writer sink = sink.writer
 
 abbrev pub output_faults : {W : Type 0} → SinkOnOutput W → ℕ
 output_faults sink = sink.faults
+
+-- The first of the bytes that a reader has left comes and is taken, and None comes only where none is left. After an error the
+-- same bytes are left. Of a reader that tells nothing, nothing is said
+abbrev pub ByteRead : {E : Type 0} → Option (List ℕ) → Option (List ℕ) → Result (Option ℕ) E → Type 0
+ByteRead old new (Ok None) = IsAtEnd old × Keeps old new
+ByteRead old new (Ok (Some byte)) = Consumes old new (byte ∷ [])
+ByteRead old new (Err error) = Keeps old new
+
+-- After Ok a writer holds the bytes behind what it held, and after an error some prefix of the bytes behind it. Of a writer that
+-- tells nothing, nothing is said
+abbrev pub WholeWritten : {E : Type 0} → Option (List ℕ) → Option (List ℕ) → List ℕ → Result (Unit {0}) E → Type 0
+WholeWritten old new bytes (Ok done) = Appends old new bytes
+WholeWritten old new bytes (Err error) = (prefix : List ℕ) × IsPrefix prefix bytes × Appends old new prefix

@@ -1,12 +1,12 @@
 ghost use Rattle.std.specs.Prelude.{◌≡◌};
-ghost use Rattle.sl_outside.specs.Adapters.{input_reader, input_faults, output_writer, output_faults};
+ghost use Rattle.sl_outside.specs.Adapters.{input_reader, input_faults, output_writer, output_faults, ByteRead, WholeWritten};
 
 use crate::{Failed, Sink, Source};
 use std::io;
 use std::io::{ErrorKind, Read, Write};
 
-/// A reader as a source. It tells nothing of its bytes, and reads no byte before it is asked for. A read that gives no byte is
-/// the end, and an error is a fault.
+/// A reader as a source. It tells what its reader tells, which for standard input is nothing, and reads no byte before it is
+/// asked for. A read that gives no byte is the end, and an error is a fault.
 #[derive(Drop)]
 pub struct SourceOnInput<R: Read + Drop> {
     reader: R,
@@ -23,10 +23,9 @@ impl<R: Read + Drop> SourceOnInput<R> {
 }
 
 impl<R: Read + Drop> Source for SourceOnInput<R> {
-    ghost use Rattle.std.specs.Prelude.{None};
-    ghost use Rattle.sl_outside.specs.Adapters.{input_faults};
+    ghost use Rattle.sl_outside.specs.Adapters.{input_reader, input_faults};
 
-    ghost left = { λ _. None };
+    ghost left = { λ s. R.remaining (input_reader s) };
 
     ghost faults = { input_faults };
 
@@ -41,7 +40,10 @@ impl<R: Read + Drop> Source for SourceOnInput<R> {
     }
 }
 
-fn read_byte<R: Read>(reader: &mut R) -> io::Result<Option<u8>> {
+/// The next byte, or None at the end.
+fn read_byte<R: Read>(reader: &mut R) -> io::Result<Option<u8>>
+    ensures { ByteRead (R.remaining reader.old) (R.remaining reader.new) result }
+{
     let mut byte = [0u8; 1];
     for _ in 0..u64::MAX {
         match reader.read(&mut byte) {
@@ -57,8 +59,8 @@ fn read_byte<R: Read>(reader: &mut R) -> io::Result<Option<u8>> {
     Err(io::Error::from(ErrorKind::Interrupted))
 }
 
-/// A writer as a sink. It tells nothing of its bytes. A write that takes nothing of a piece that isn't empty is a fault, and so
-/// is an error.
+/// A writer as a sink. It tells what its writer tells, which for standard output is nothing. A write that takes nothing of a
+/// piece that isn't empty is a fault, and so is an error.
 #[derive(Drop)]
 pub struct SinkOnOutput<W: Write + Drop> {
     writer: W,
@@ -75,10 +77,9 @@ impl<W: Write + Drop> SinkOnOutput<W> {
 }
 
 impl<W: Write + Drop> Sink for SinkOnOutput<W> {
-    ghost use Rattle.std.specs.Prelude.{None};
-    ghost use Rattle.sl_outside.specs.Adapters.{output_faults};
+    ghost use Rattle.sl_outside.specs.Adapters.{output_writer, output_faults};
 
-    ghost held = { λ _. None };
+    ghost held = { λ s. W.contents (output_writer s) };
 
     ghost faults = { output_faults };
 
@@ -93,8 +94,10 @@ impl<W: Write + Drop> Sink for SinkOnOutput<W> {
     }
 }
 
-/// Writes all the bytes, in as many writes as it takes.
-pub fn write_whole<W: Write>(writer: &mut W, bytes: &[u8]) -> io::Result<()> {
+/// Writes all the bytes, in as many writes as it takes. Where it fails it wrote a front of them.
+pub fn write_whole<W: Write>(writer: &mut W, bytes: &[u8]) -> io::Result<()>
+    ensures { WholeWritten (W.contents writer.old) (W.contents writer.new) bytes.now result }
+{
     let mut rest = bytes;
     for _ in 0..u64::MAX {
         if rest.is_empty() {

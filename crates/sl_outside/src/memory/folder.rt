@@ -1,4 +1,6 @@
-ghost use Rattle.std.specs.Prelude.{◌≡◌, IfOk, IfErr, IfNone, IfSome, OnOk, OnErr};
+ghost use Rattle.std.specs.Prelude.{◌≡◌, IfOk, IfErr, IfNone, IfSome, OnOk, OnErr, MatchResult};
+ghost use Rattle.sl_outside.specs.Faults.{HasCause};
+ghost use Rattle.sl_outside.specs.Folder.{WriteGives, is_fault};
 ghost use Rattle.sl_outside.specs.Entries.{contents_of, stored, StoresAt, StoresAtEnd};
 
 use crate::{Folder, Refused};
@@ -41,7 +43,11 @@ impl Folder for SureFolder {
         read_entry(alloc, self.files.as_slice(), name)
     }
 
-    fn write(&mut self, alloc: Global, name: &str, bytes: &[u8]) -> Result<(), Refused> {
+    fn write(&mut self, alloc: Global, name: &str, bytes: &[u8]) -> Result<(), Refused>
+        ensures written { WriteGives (Some (contents_of self.old)) (Some (contents_of self.new)) name.now bytes.now result }
+        ensures cause { HasCause (is_fault result) 0 0 }
+        ensures listed { MatchResult result (λ _. self.new ≡ stored self.old name.now bytes.now) (λ _. self.new ≡ self.old) }
+    {
         write_entry(alloc, &mut self.files, name, bytes)
     }
 }
