@@ -133,7 +133,10 @@ PutsNothing before after Usage = after.out ≡ before.out
 PutsNothing before after NoFile = after.out ≡ before.out
 PutsNothing before after FolderFault = after.out ≡ before.out
 PutsNothing before after NotBuilt = after.out ≡ before.out
-PutsNothing before after other = Unit {0}
+PutsNothing before after (Exit value) = Unit {0}
+PutsNothing before after SinkFault = Unit {0}
+PutsNothing before after Memory = Unit {0}
+PutsNothing before after other = ⊥
 
 -- the line of a status that a refusal of the line turns into that of an output's fault
 abbrev pub IsLineOf : List (List ℕ) → Status → List ℕ → Type 0

@@ -5,10 +5,13 @@
 --   import org.sireum._
 --   object NAME extends App {
 --     def main(args: ISZ[String]): Z = {
---       println("TEXT")                     any number of such lines
+--       println("TEXT")                     any number of such lines, also none
 --       return VALUE
 --     }
 --   }
+--
+-- NAME is a capital, then letters and digits, and no reserved name. TEXT has at most 100 printable bytes of ASCII, without the
+-- quotation mark and the backslash. VALUE is a number from 0 to 63.
 use Rattle.std.specs.Prelude.{◌≡◌, ◌≢◌, ◌⊎◌, ℕ, ◌≤◌, List, [], ◌∷◌, ◌++◌, length, map, All, Contains, codes}
 use Rattle.std.specs.List.{flat_map}
 use Rattle.std.specs.Fmt.{decimal}

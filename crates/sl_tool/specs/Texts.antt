@@ -1,4 +1,4 @@
--- The lines that go with each status. Each ends with a line feed.
+-- The lines that go with the statuses that come today. Each ends with a line feed.
 use Rattle.std.specs.Prelude.{ℕ, ℤ, List, ◌++◌, codes}
 use Rattle.std.specs.Fmt.{signed_decimal}
 
