@@ -1,21 +1,22 @@
-ghost use Rattle.std.specs.Prelude.{◌≡◌};
+ghost use Rattle.std.specs.Prelude.{◌≡◌, ◌<◌, ◌≤◌, ◌^◌, length, IfOk, IfSome, IsErr};
 ghost use Rattle.sl_outside.specs.Adapters.{disk_faults};
 
 use super::streams::write_whole;
 use crate::{Folder, Refused};
 use sl_text::Row;
-use std::alloc::{AllocError, Global};
+use std::alloc::Global;
+use std::fs;
 use std::io::{ErrorKind, Read};
 use std::rt::Files;
-use std::{fs, io};
 
 /// A file with more bytes is a fault.
 const MAX_FILE_LEN: usize = 1 << 30;
 
 const BUFFER_LEN: usize = 8192;
 
-/// The files of the system as a folder, whose names are paths. It tells nothing of what it holds. A file that doesn't exist is
-/// None; one that can't be opened, read or written whole, or that has more than 2^30 bytes, is a fault.
+/// The files of the system as a folder, whose names are paths. It tells nothing of what it holds. A name that doesn't exist, also
+/// one below a file, is None. A file that can't be opened, read or written whole, or that has more than 2^30 bytes, is a fault,
+/// but where the system says that memory ran out.
 #[derive(Drop)]
 pub struct FolderOnDisk<'a, R: Files> {
     rt: &'a R,
@@ -65,7 +66,12 @@ fn read_file<R: Files>(alloc: Global, rt: &R, name: &str) -> Result<Option<Row<u
     }
 }
 
-fn read_whole<F: Read>(alloc: Global, file: &mut F) -> Result<Row<u8>, Refused> {
+/// All the bytes that are left, where they are at most 2^30.
+fn read_whole<F: Read>(alloc: Global, file: &mut F) -> Result<Row<u8>, Refused>
+    ensures whole { IfOk result (λ bytes. IfSome (F.remaining file.old) (λ all. bytes ≡ all)) }
+    ensures short { IfOk result (λ bytes. length bytes ≤ 2 ^ 30) }
+    ensures too_long { IfSome (F.remaining file.old) (λ all. 2 ^ 30 < length all → IsErr result) }
+{
     let mut bytes = Vec::new(alloc);
     let mut buffer = [0u8; BUFFER_LEN];
     for _ in 0..u64::MAX {
