@@ -95,7 +95,7 @@ module _ (words : List (List ℕ)) (files : Contents) (input : List ℕ) (before
         let (file, bytes, reads, found, other) = asks in
         settled before after NotBuilt status calm
         (meant NotBuilt (ap (λ answer. answer.status) (answer_not_built words files input file bytes (command_of_reading words (Run file) reads) found (not_straight bytes other))));
-    exit = λ value ends calm quiet.
+    exit = λ value ends calm dry quiet.
         let (file, bytes, program, reads, found, straight, ending) = ends in
         let done : Done (pos program.value) ≡ Done (pos value) = sym (ap (λ run. run.ending) (run_is program input 999999999)) ∙ ending in
         let same : program.value ≡ value = cc in

@@ -100,7 +100,7 @@ pub record Comes (words : List (List ℕ)) (files : Contents) (input : List ℕ)
   pub usage : HasNoReading words → ¬ NoteRose before after → IsUnlessMemory status Usage
   pub no_file : AsksForNoFile words files → ¬ FolderRose before after → ¬ NoteRose before after → IsUnlessMemory status NoFile
   pub not_built : AsksForUnbuilt words files → ¬ FolderRose before after → IsUnlessMemory status NotBuilt
-  pub exit : (value : ℕ) → EndsWith words files input value → ¬ FolderRose before after → ¬ OutRose before after → IsUnlessMemory status (Exit value)
+  pub exit : (value : ℕ) → EndsWith words files input value → ¬ FolderRose before after → ¬ InputRose before after → ¬ OutRose before after → IsUnlessMemory status (Exit value)
 
 -- Faults --------------------------------------------------------------------------------------------------------------
 

@@ -18,8 +18,11 @@ use std::alloc::Global;
 use telling::{tell_stop, tell_usage};
 use words::file_to_run;
 
-/// Does what the words after the program's name ask for. The program's standard output is `out`, and its standard error is
-/// `note`.
+/// Does what the words after the program's name ask for: `run FILE` reads the file from `folder`, and puts on `out` what its
+/// program prints, a byte at a time. `note` gets one line where the status isn't the exit value of a run; docs/command-line.md
+/// has the statuses, their causes and their lines. No file is changed, and `input` isn't read.
+///
+/// The one clause, `Promise`, has a field for each promise.
 pub fn slang<F: Folder, S: Source, K: Sink, N: Sink>(
     alloc: Global,
     words: &Vec<String>,
