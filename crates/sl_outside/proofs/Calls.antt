@@ -3,7 +3,8 @@ use Rattle.std.proofs.Common.{◌≡◌, ℕ, ◌+◌, ◌-◌, ◌<◌, ◌≤�
 use Rattle.std.specs.Prelude.{nat_lt, ◌==◌, Ok}
 use Rattle.std.specs.List.{list_any}
 use Rattle.std.proofs.lemmas.Bool.Decides.{Decides-ltb}
-use Rattle.sl_outside.specs.Numbered.{one_more, MemorySinkState, PutAnswers}
+use Rattle.sl_outside.specs.Counts.{one_more}
+use Rattle.sl_outside.specs.Numbered.{MemorySinkState, PutAnswers}
 
 -- a number that isn't less doesn't pass the test
 not_less : (a b : ℕ) → b ≤ a → nat_lt a b ≡ false

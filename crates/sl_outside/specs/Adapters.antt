@@ -1,4 +1,4 @@
--- What the adapters over the system hold: what they stand over, and how often it failed. And what reading a byte and writing
+-- What the adapters over the system hold: what they stand over, how often it failed, and how often they were called. And what reading a byte and writing
 -- bytes whole do to what they stand over.
 use Rattle.std.specs.Prelude.{ℕ, List, [], ◌∷◌, Option, Some, None, Result, Ok, Err}
 use Rattle.std.specs.Io.KnownBytes.{Keeps, Appends, Consumes, IsAtEnd}
@@ -10,17 +10,26 @@ use Rattle.sl_outside.specs.declared.adapters.streams.SinkOnOutput.{SinkOnOutput
 abbrev pub disk_faults : {R File Directory : Type 0} → FolderOnDisk R File Directory → ℕ
 disk_faults folder = folder.faults
 
+abbrev pub disk_calls : {R File Directory : Type 0} → FolderOnDisk R File Directory → ℕ
+disk_calls folder = folder.calls
+
 abbrev pub input_reader : {R : Type 0} → SourceOnInput R → R
 input_reader source = source.reader
 
 abbrev pub input_faults : {R : Type 0} → SourceOnInput R → ℕ
 input_faults source = source.faults
 
+abbrev pub input_calls : {R : Type 0} → SourceOnInput R → ℕ
+input_calls source = source.calls
+
 abbrev pub output_writer : {W : Type 0} → SinkOnOutput W → W
 output_writer sink = sink.writer
 
 abbrev pub output_faults : {W : Type 0} → SinkOnOutput W → ℕ
 output_faults sink = sink.faults
+
+abbrev pub output_calls : {W : Type 0} → SinkOnOutput W → ℕ
+output_calls sink = sink.calls
 
 -- The first of the bytes that a reader has left comes and is taken, and None comes only where none is left. After an error the
 -- same bytes are left. Of a reader that tells nothing, nothing is said

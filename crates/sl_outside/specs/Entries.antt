@@ -19,3 +19,13 @@ StoresAt entries name at = (at < length entries) × ((bytes : List ℕ) → stor
 -- bytes under this name are stored behind all entries
 abbrev pub StoresAtEnd : List (List ℕ × List ℕ) → List ℕ → Type 0
 StoresAtEnd entries name = (bytes : List ℕ) → stored entries name bytes ≡ entries ++ (name, bytes) ∷ []
+
+-- a folder over memory that never fails, and how often it was called
+pub record SureFolderState : Type 0 where
+  pub files : List (List ℕ × List ℕ)
+  pub calls : ℕ
+
+-- a source over memory that never fails: what it has left, and how often it was called
+pub record SureSourceState : Type 0 where
+  pub left : List ℕ
+  pub calls : ℕ

@@ -22,10 +22,19 @@ abbrev pub OthersStay : List ℕ → Contents → Contents → Type 0
 OthersStay name old new = (other : List ℕ) → other ≢ name → new other ≡ old other
 
 -- A write of bytes under a name. After Ok the name has just these bytes, and after a fault it may have any or none; no other
--- name changes. For want of memory nothing changes. What a folder
--- tells, it goes on telling; of one that tells nothing, nothing is said
+-- name changes. For want of memory nothing changes. What a folder tells, it goes on telling; of one that tells nothing, nothing
+-- is said
 abbrev pub WriteGives : Option Contents → Option Contents → List ℕ → List ℕ → Result (Unit {0}) Refused → Type 0
 WriteGives None after name bytes result = Unit {0}
 WriteGives (Some old) after name bytes (Ok done) = IsSomeAnd after (λ new. (new name ≡ Some bytes) × OthersStay name old new)
 WriteGives (Some old) after name bytes (Err Failed) = IsSomeAnd after (λ new. OthersStay name old new)
 WriteGives (Some old) after name bytes (Err Mem) = after ≡ Some old
+
+-- a folder as clauses see it: what it holds, where it tells that, how often it failed, and how often it was called
+pub record FolderState : Type 0 where
+  pub files : Option Contents
+  pub faults : ℕ
+  pub calls : ℕ
+
+abbrev pub folder_state : Option Contents → ℕ → ℕ → FolderState
+folder_state files faults calls = record { files = files; faults = faults; calls = calls }

@@ -1,4 +1,4 @@
-pub mod Faults
+pub mod Counts
 pub mod Folder
 pub mod Source
 pub mod Sink

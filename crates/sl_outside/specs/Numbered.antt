@@ -2,11 +2,8 @@
 -- number of every later call too.
 use Rattle.std.specs.Prelude.{◌≡◌, ℕ, ◌+◌, ◌-◌, ◌^◌, min, List, ◌++◌, length, Bool, true, false, ◌||◌, nat_lt, ◌==◌, Result, Ok, Err}
 use Rattle.std.specs.List.{list_any}
+use Rattle.sl_outside.specs.Counts.{one_more}
 use Rattle.sl_outside.specs.declared.source.Failed.{Failed}
-
--- one more, up to the greatest number
-abbrev pub one_more : ℕ → ℕ
-one_more n = min (n + 1) (2 ^ 64 - 1)
 
 -- a sink over memory: what it holds, how much it may hold, the numbers of the calls that fail, and how many calls and faults
 -- there were

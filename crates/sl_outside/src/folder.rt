@@ -1,5 +1,5 @@
 ghost use Rattle.std.specs.Prelude.{◌≡◌, List, ℕ, Option};
-ghost use Rattle.sl_outside.specs.Faults.{HasCause};
+ghost use Rattle.sl_outside.specs.Counts.{HasCause, one_more};
 ghost use Rattle.sl_outside.specs.Folder.{Contents, ReadGives, WriteGives, is_fault};
 
 use sl_text::{Mem, Row};
@@ -47,14 +47,19 @@ pub trait Folder {
     /// How often it failed. At 2^64 - 1 the count stands still.
     ghost faults: { Self → ℕ };
 
+    /// How often it was called, with the same end.
+    ghost calls: { Self → ℕ };
+
     /// The bytes under a name, or None where the name isn't there.
     fn read(&mut self, alloc: Global, name: &str) -> Result<Option<Row<u8>>, Refused>
         ensures found { ReadGives (files self.old) name.now result }
         ensures unchanged { files self.new ≡ files self.old }
-        ensures cause { HasCause (is_fault result) (faults self.old) (faults self.new) };
+        ensures cause { HasCause (is_fault result) (faults self.old) (faults self.new) }
+        ensures counted { calls self.new ≡ one_more (calls self.old) };
 
     /// Puts bytes under a name, in place of what was there.
     fn write(&mut self, alloc: Global, name: &str, bytes: &[u8]) -> Result<(), Refused>
         ensures written { WriteGives (files self.old) (files self.new) name.now bytes.now result }
-        ensures cause { HasCause (is_fault result) (faults self.old) (faults self.new) };
+        ensures cause { HasCause (is_fault result) (faults self.old) (faults self.new) }
+        ensures counted { calls self.new ≡ one_more (calls self.old) };
 }

@@ -1,5 +1,5 @@
 ghost use Rattle.std.specs.Prelude.{◌≡◌, List, ℕ, Option, is_err};
-ghost use Rattle.sl_outside.specs.Faults.{HasCause};
+ghost use Rattle.sl_outside.specs.Counts.{HasCause, one_more};
 ghost use Rattle.sl_outside.specs.Source.{NextGives};
 
 use thiserror::Error;
@@ -17,8 +17,12 @@ pub trait Source {
     /// How often it failed. At 2^64 - 1 the count stands still.
     ghost faults: { Self → ℕ };
 
+    /// How often it was called, with the same end.
+    ghost calls: { Self → ℕ };
+
     /// The next byte, or None at the end. Asked again there, it gives None again.
     fn next(&mut self) -> Result<Option<u8>, Failed>
         ensures next { NextGives (left self.old) (left self.new) result }
-        ensures cause { HasCause (is_err result) (faults self.old) (faults self.new) };
+        ensures cause { HasCause (is_err result) (faults self.old) (faults self.new) }
+        ensures counted { calls self.new ≡ one_more (calls self.old) };
 }

@@ -11,7 +11,7 @@ use Rattle.sl_tool.specs.Meaning.{run_of}
 use Rattle.sl_tool.specs.Words.{Run, command_of}
 use Rattle.sl_tool.specs.Texts.{usage_line, no_file_line, not_built_line, exit_value_line}
 use Rattle.sl_tool.specs.Answer.{answer_of, answer_to, answer_to_file, answer_to_program, rejected, ran, default_turns}
-use Rattle.sl_tool.specs.Parts.{output_of}
+use Rattle.sl_tool.specs.Straight.{ended}
 use Rattle.sl_tool.proofs.Walking.{run_is}
 
 -- words with no command
@@ -37,7 +37,7 @@ answer_run words files input file bytes program run found some =
     ap (λ command. answer_to command files input) run ∙ (ap (λ found. answer_to_file file found files input) found ∙ ap (λ program. answer_to_program program files input) some)
 
 -- what a straight program answers
-pub ran_is : (program : Straight) (files : Contents) (input : List ℕ) → program.value ≤ 63 → ran (run_of program input default_turns) files ≡ record { status = status.Exit program.value; files = files; out = output_of program.texts; note = []; rest = input }
+pub ran_is : (program : Straight) (files : Contents) (input : List ℕ) → program.value ≤ 63 → ran (run_of program input default_turns) files ≡ record { status = status.Exit program.value; files = files; out = ended program.texts; note = []; rest = input }
 ran_is program files input le =
     ap (λ run. ran run files) (run_is program input 999999999)
-    ∙ ap₂ (λ (small : Bool) (out : List ℕ). record { status = cond small (status.Exit program.value) status.ExitValue; files = files; out = out; note = cond small [] (exit_value_line (pos program.value)); rest = input }) (le-leb program.value 63 le) (printed-puts (output_of program.texts))
+    ∙ ap₂ (λ (small : Bool) (out : List ℕ). record { status = cond small (status.Exit program.value) status.ExitValue; files = files; out = out; note = cond small [] (exit_value_line (pos program.value)); rest = input }) (le-leb program.value 63 le) (printed-puts (ended program.texts))

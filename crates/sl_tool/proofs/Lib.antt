@@ -2,8 +2,8 @@ pub mod Reader
 pub mod Reading
 pub mod Walking
 pub mod Answering
-pub mod Putting
 pub mod Noting
+pub mod Printing
 pub mod Told
 pub mod Promising
 pub mod Paths

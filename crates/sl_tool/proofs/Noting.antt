@@ -2,7 +2,7 @@
 use Rattle.std.proofs.Common.{◌≡◌, ℕ, ◌≤◌, List, [], ◌++◌, Option, Some, None, refl, sym, subst, append-nil, inl, inr, arith}
 use Rattle.std.specs.Prelude.{◌⊎◌, Result, Ok, Err, IfSome}
 use Rattle.sl_outside.specs.declared.source.Failed.{Failed}
-use Rattle.sl_outside.specs.Faults.{Rose}
+use Rattle.sl_outside.specs.Counts.{Rose}
 use Rattle.sl_outside.specs.Sink.{PutGives, IsPrefix, SinkState, Put, Tried}
 use Rattle.sl_tool.specs.declared.status.Status.{Status}
 use Rattle.sl_tool.specs.declared.status.Status.TheVariants.{SinkFault}
@@ -35,7 +35,7 @@ gave_prefix a b held piece result e h = gave_prefix_at b held piece result (subs
 -- where the count didn't rise nothing was refused
 not_refused : (line : List ℕ) (a b : SinkState) (result : Result (Unit {0}) Failed) → Put line a b result → ¬ Rose a.faults b.faults → Put line a b (Ok tt)
 not_refused line a b (Ok done) h calm = h
-not_refused line a b (Err failed) h calm = absurd (calm (h.1.rose refl))
+not_refused line a b (Err failed) h calm = absurd (calm (h.cause.rose refl))
 
 -- a line that was tried with no fault of `note`
 pub try_calm : (line : List ℕ) (a b : SinkState) → Tried line a b → ¬ Rose a.faults b.faults → Put line a b (Ok tt)
@@ -47,15 +47,15 @@ rose_by a m b h le = omega arith
 
 -- how telling a line ended: as it was to, with no fault, or with one
 pub tell_ends : (meant status : Status) (line : List ℕ) (a b : SinkState) → Tells line meant a b status → ((status ≡ meant) × (b.faults ≡ a.faults)) ⊎ ((status ≡ SinkFault) × Rose a.faults b.faults)
-tell_ends meant status line a b (inl h) = inl (h.1, h.0.1.stayed refl)
-tell_ends meant status line a b (inr (m, refused, tried, e)) = inr (e, rose_by a.faults m.faults b.faults (refused.1.rose refl) tried.1.1.no_lower)
+tell_ends meant status line a b (inl h) = inl (h.1, h.0.cause.stayed refl)
+tell_ends meant status line a b (inr (m, refused, tried, e)) = inr (e, rose_by a.faults m.faults b.faults (refused.cause.rose refl) tried.1.cause.no_lower)
 
 -- a line that was told with no fault of `note`
 pub tell_calm : (meant status : Status) (line : List ℕ) (a b : SinkState) → Tells line meant a b status → ¬ Rose a.faults b.faults → Put line a b (Ok tt) × (status ≡ meant)
 tell_calm meant status line a b (inl h) calm = h
-tell_calm meant status line a b (inr (m, refused, tried, e)) calm = absurd (calm (rose_by a.faults m.faults b.faults (refused.1.rose refl) tried.1.1.no_lower))
+tell_calm meant status line a b (inr (m, refused, tried, e)) calm = absurd (calm (rose_by a.faults m.faults b.faults (refused.cause.rose refl) tried.1.cause.no_lower))
 
 -- the count doesn't fall where a line is told
 pub tell_grows : (meant status : Status) (line : List ℕ) (a b : SinkState) → Tells line meant a b status → a.faults ≤ b.faults
-tell_grows meant status line a b (inl h) = h.0.1.no_lower
-tell_grows meant status line a b (inr (m, refused, tried, e)) = let p : a.faults ≤ m.faults = refused.1.no_lower in let q : m.faults ≤ b.faults = tried.1.1.no_lower in omega arith
+tell_grows meant status line a b (inl h) = h.0.cause.no_lower
+tell_grows meant status line a b (inr (m, refused, tried, e)) = let p : a.faults ≤ m.faults = refused.cause.no_lower in let q : m.faults ≤ b.faults = tried.1.cause.no_lower in omega arith

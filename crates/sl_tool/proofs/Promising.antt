@@ -12,7 +12,7 @@ use Rattle.sl_tool.specs.Meaning.{run_of}
 use Rattle.sl_tool.specs.Words.{Command, Run, command_of}
 use Rattle.sl_tool.specs.Answer.{answer_of, ran, default_turns}
 use Rattle.sl_tool.specs.Outside.{Outside, FolderRose, OutRose, NoteRose}
-use Rattle.sl_tool.specs.Promise.{IsUnlessMemory, Did, Complete, Finished, RanAs, Runs, Cause, Comes, HidesNoFault, CountsGrow, GoesNoFurther, PutsNothing, Noted, Keeps}
+use Rattle.sl_tool.specs.Promise.{IsUnlessMemory, Did, Complete, Finished, RanAs, Runs, Cause, Comes, HidesNoFault, CountsGrow, GoesNoFurther, Printed, Noted, AsksOnce, Keeps}
 use Rattle.sl_tool.proofs.Reading.{command_of_reading, no_command}
 use Rattle.sl_tool.proofs.Reader.StraightReading.{straight_sound, straight_exactly}
 use Rattle.sl_tool.proofs.Walking.{run_is}
@@ -107,8 +107,8 @@ module _ (words : List (List ℕ)) (files : Contents) (input : List ℕ) (before
       meant other e = subst (λ meant. Settles before after meant status) e all
 
   -- the whole promise, of its parts
-  pub keeps : Complete words files input before after status → Finished words files input before after status → Cause words files input before after status → Settles before after (answer_of words files input).status status → HidesNoFault before after status → CountsGrow before after → GoesNoFurther (answer_of words files input) input before after → PutsNothing before after status → Noted words before after status → after.files ≡ before.files → Keeps words files input before after status
-  keeps complete finished cause all hides counts stands silent noted unchanged = record {
+  pub keeps : Complete words files input before after status → Finished words files input before after status → Cause words files input before after status → Settles before after (answer_of words files input).status status → HidesNoFault before after status → CountsGrow before after → GoesNoFurther (answer_of words files input) input before after → Printed (answer_of words files input) before after status → Noted words files before after status → AsksOnce words before after → after.folder.files ≡ before.folder.files → after.input ≡ before.input → Keeps words files input before after status
+  keeps complete finished cause all hides counts stands printed noted asks unchanged untouched = record {
     complete = complete;
     finished = finished;
     run = runs complete;
@@ -117,7 +117,9 @@ module _ (words : List (List ℕ)) (files : Contents) (input : List ℕ) (before
     hides_no_fault = hides;
     counts = counts;
     stands = stands;
-    silent = silent;
+    printed = printed;
     noted = noted;
+    asks_once = asks;
     unchanged = unchanged;
+    untouched = untouched;
   }

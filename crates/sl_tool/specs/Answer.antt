@@ -9,7 +9,7 @@ use Rattle.sl_tool.specs.declared.straight.Straight.{Straight}
 use Rattle.sl_tool.specs.StraightReading.{straight_of}
 use Rattle.sl_tool.specs.Meaning.{run_of}
 use Rattle.sl_tool.specs.Words.{Command, Run, command_of}
-use Rattle.sl_tool.specs.Texts.{usage_line, no_file_line, turns_spent_line, exit_value_line, not_built_line}
+use Rattle.sl_tool.specs.Texts.{usage_line, no_file_line, turns_spent_line, stack_spent_line, exit_value_line, not_built_line}
 
 -- the exit status of the process
 abbrev pub code_of : Status → ℕ
@@ -41,11 +41,12 @@ pub record Answer : Type 0 where
 abbrev pub default_turns : ℕ
 default_turns = 1000000000
 
--- the status of a run that ended so: exit values are 0 to 63
+-- the status of an exit value: 0 to 63 are exit values of the tool
 abbrev pub exit_status : ℤ → Status
 exit_status (pos value) = if nat_le value 63 then status.Exit value else status.ExitValue
 exit_status (negsuc below) = status.ExitValue
 
+-- the status of a run that ended so
 abbrev pub run_status : Ending → Status
 run_status (Done value) = exit_status value
 run_status (Halt kind file line) = status.Halted
@@ -53,17 +54,17 @@ run_status TurnsSpent = status.TurnsSpent
 run_status StackSpent = status.StackSpent
 run_status (Stuck function) = status.Stuck
 
--- the line of a run that ended so. No straight program halts, passes a limit of the stack or gets stuck: those lines come with
--- the forms that do
+-- the line of an exit value outside 0 to 63
 abbrev pub exit_line : ℤ → List ℕ
 exit_line (pos value) = if nat_le value 63 then [] else exit_value_line (pos value)
 exit_line (negsuc below) = exit_value_line (negsuc below)
 
+-- the line of a run that ended so. No straight program halts or gets stuck: no line is given for these yet
 abbrev pub run_line : Ending → List ℕ
 run_line (Done value) = exit_line value
 run_line TurnsSpent = turns_spent_line
 run_line (Halt kind file line) = []
-run_line StackSpent = []
+run_line StackSpent = stack_spent_line
 run_line (Stuck function) = []
 
 -- a command that is rejected puts its line on `note`, puts nothing on `out` and takes nothing of the input

@@ -3,8 +3,9 @@
 -- promise is that it holds of some `files` and some `input`. Of an output that tells nothing of its bytes, nothing is said but
 -- its count of faults.
 use Rattle.std.specs.Prelude.{◌≡◌, ◌⊎◌, ℕ, pos, ◌<◌, ◌≤◌, List, ◌++◌, Some, None, IfSome, Ok, Err}
+use Rattle.sl_outside.specs.Counts.{one_more}
 use Rattle.sl_outside.specs.Folder.{Contents}
-use Rattle.sl_outside.specs.Sink.{IsPrefix, SinkState, Put, Tried}
+use Rattle.sl_outside.specs.Sink.{IsPrefix, SinkState, Put, Tried, Prints}
 use Rattle.sl_run.specs.Run.{Done}
 use Rattle.sl_run.specs.Outcome.{Outcome, printed}
 use Rattle.sl_tool.specs.declared.status.Status.{Status}
@@ -26,10 +27,10 @@ IsUnlessMemory status meant = (status ≡ meant) ⊎ (status ≡ Memory)
 -- a call did what an answer says
 pub record Did (answer : Answer) (before after : Outside) (status : Status) : Type 0 where
   pub same_status : status ≡ answer.status
-  pub files : IfSome before.files (λ _. after.files ≡ Some answer.files)
+  pub files : IfSome before.folder.files (λ _. after.folder.files ≡ Some answer.files)
   pub out : IfSome before.out.held (λ held. after.out.held ≡ Some (held ++ answer.out))
   pub note : IfSome before.note.held (λ held. after.note.held ≡ Some (held ++ answer.note))
-  pub rest : IfSome before.left (λ _. after.left ≡ Some answer.rest)
+  pub rest : IfSome before.input.left (λ _. after.input.left ≡ Some answer.rest)
 
 -- where nothing failed, the call did what `answer_of` says, or memory ran out
 abbrev pub Complete : List (List ℕ) → Contents → List ℕ → Outside → Outside → Status → Type 0
@@ -52,7 +53,7 @@ Finished words files input before after status = IsFinal status → Did (answer_
 pub record RanAs (run : Outcome) (before after : Outside) (status : Status) : Type 0 where
   pub ended : status ≡ run_status run.ending
   pub printed_bytes : IfSome before.out.held (λ held. after.out.held ≡ Some (held ++ printed run.events))
-  pub rest : IfSome before.left (λ _. after.left ≡ Some run.rest)
+  pub rest : IfSome before.input.left (λ _. after.input.left ≡ Some run.rest)
 
 -- `run FILE` on a straight file prints, reads and ends as the program does
 abbrev pub Runs : List (List ℕ) → Contents → List ℕ → Outside → Outside → Status → Type 0
@@ -107,15 +108,15 @@ pub record Comes (words : List (List ℕ)) (files : Contents) (input : List ℕ)
 -- Where a count rose, no other status hides it: first the folder's, then the input's, then those of the outputs. A fault of
 -- `note` alone leaves the statuses whose own line it refused: that of a source that isn't built yet, and want of memory
 pub record HidesNoFault (before after : Outside) (status : Status) : Type 0 where
-  pub folder : before.folder_faults < after.folder_faults → status ≡ FolderFault
-  pub input : ¬ FolderRose before after → before.input_faults < after.input_faults → status ≡ InputFault
+  pub folder : before.folder.faults < after.folder.faults → status ≡ FolderFault
+  pub input : ¬ FolderRose before after → before.input.faults < after.input.faults → status ≡ InputFault
   pub out : ¬ FolderRose before after → ¬ InputRose before after → before.out.faults < after.out.faults → status ≡ SinkFault
   pub note : ¬ FolderRose before after → ¬ InputRose before after → before.note.faults < after.note.faults → IsUnlessMemory status SinkFault ⊎ (status ≡ NotBuilt)
 
 -- counts of faults never fall
 pub record CountsGrow (before after : Outside) : Type 0 where
-  pub folder : before.folder_faults ≤ after.folder_faults
-  pub input : before.input_faults ≤ after.input_faults
+  pub folder : before.folder.faults ≤ after.folder.faults
+  pub input : before.input.faults ≤ after.input.faults
   pub out : before.out.faults ≤ after.out.faults
   pub note : before.note.faults ≤ after.note.faults
 
@@ -125,42 +126,47 @@ pub record CountsGrow (before after : Outside) : Type 0 where
 -- the answer takes
 pub record GoesNoFurther (answer : Answer) (input : List ℕ) (before after : Outside) : Type 0 where
   pub out : IfSome before.out.held (λ held. (prefix : List ℕ) × IsPrefix prefix answer.out × (after.out.held ≡ Some (held ++ prefix)))
-  pub taken : IfSome before.left (λ _. (taken : List ℕ) × (more : List ℕ) × (input ≡ taken ++ more ++ answer.rest) × (after.left ≡ Some (more ++ answer.rest)))
+  pub taken : IfSome before.input.left (λ _. (taken : List ℕ) × (more : List ℕ) × (input ≡ taken ++ more ++ answer.rest) × (after.input.left ≡ Some (more ++ answer.rest)))
 
--- with these statuses nothing was put on `out`
-abbrev pub PutsNothing : Outside → Outside → Status → Type 0
-PutsNothing before after Usage = after.out ≡ before.out
-PutsNothing before after NoFile = after.out ≡ before.out
-PutsNothing before after FolderFault = after.out ≡ before.out
-PutsNothing before after NotBuilt = after.out ≡ before.out
-PutsNothing before after (Exit value) = Unit {0}
-PutsNothing before after SinkFault = Unit {0}
-PutsNothing before after Memory = Unit {0}
-PutsNothing before after other = ⊥
+-- How `out` got it, by the status: byte by byte, each by a call of its own, up to the first that failed
+abbrev pub Printed : Answer → Outside → Outside → Status → Type 0
+Printed answer before after (Exit value) = Prints answer.out before.out after.out (Ok tt)
+Printed answer before after SinkFault = Prints answer.out before.out after.out (Err (record {})) ⊎ (after.out ≡ before.out)
+Printed answer before after Memory = (prefix : List ℕ) × IsPrefix prefix answer.out × Prints prefix before.out after.out (Ok tt)
+Printed answer before after Usage = after.out ≡ before.out
+Printed answer before after NoFile = after.out ≡ before.out
+Printed answer before after FolderFault = after.out ≡ before.out
+Printed answer before after NotBuilt = after.out ≡ before.out
+Printed answer before after other = ⊥
+
+-- the folder was asked for a file once where the words ask for one, and else not at all
+pub record AsksOnce (words : List (List ℕ)) (before after : Outside) : Type 0 where
+  pub once : (file : List ℕ) → Reads words (Run file) → after.folder.calls ≡ one_more before.folder.calls
+  pub never : HasNoReading words → after.folder ≡ before.folder
 
 -- the line of a status that a refusal of the line turns into that of an output's fault
-abbrev pub IsLineOf : List (List ℕ) → Status → List ℕ → Type 0
-IsLineOf words Usage line = line ≡ usage_line
-IsLineOf words NoFile line = (file : List ℕ) × Reads words (Run file) × (line ≡ no_file_line file)
-IsLineOf words other line = ⊥
+abbrev pub IsLineOf : List (List ℕ) → Contents → Status → List ℕ → Type 0
+IsLineOf words files Usage line = HasNoReading words × (line ≡ usage_line)
+IsLineOf words files NoFile line = (file : List ℕ) × Reads words (Run file) × (files file ≡ None) × (line ≡ no_file_line file)
+IsLineOf words files other line = ⊥
 
 -- such a line was put and refused, and then the line of the fault was tried
-abbrev pub RefusesLine : List (List ℕ) → SinkState → SinkState → Type 0
-RefusesLine words before after =
+abbrev pub RefusesLine : List (List ℕ) → Contents → SinkState → SinkState → Type 0
+RefusesLine words files before after =
     (first : Status) × (line : List ℕ) × (between : SinkState)
-    × IsLineOf words first line × Put line before between (Err (record {})) × Tried output_fault_line between after
+    × IsLineOf words files first line × Put line before between (Err (record {})) × Tried output_fault_line between after
 
--- What `note` got, by the status: each line is put by one call. A line of 64 or 72 was put whole; the line of a fault, of want of
--- memory or of a source that isn't built was tried, whatever came of it
-abbrev pub Noted : List (List ℕ) → Outside → Outside → Status → Type 0
-Noted words before after (Exit value) = after.note ≡ before.note
-Noted words before after Usage = Put usage_line before.note after.note (Ok tt)
-Noted words before after NoFile = (line : List ℕ) × IsLineOf words NoFile line × Put line before.note after.note (Ok tt)
-Noted words before after FolderFault = Tried folder_fault_line before.note after.note
-Noted words before after SinkFault = (OutRose before after × Tried output_fault_line before.note after.note) ⊎ RefusesLine words before.note after.note
-Noted words before after Memory = Tried no_memory_line before.note after.note
-Noted words before after NotBuilt = Tried not_built_line before.note after.note
-Noted words before after other = ⊥
+-- What `note` got, by the status: each line by one call. A line of 64 or 72 was put whole; the line of a fault, of want of memory
+-- or of a source that isn't built was tried, whatever came of it
+abbrev pub Noted : List (List ℕ) → Contents → Outside → Outside → Status → Type 0
+Noted words files before after (Exit value) = after.note ≡ before.note
+Noted words files before after Usage = Put usage_line before.note after.note (Ok tt)
+Noted words files before after NoFile = (line : List ℕ) × IsLineOf words files NoFile line × Put line before.note after.note (Ok tt)
+Noted words files before after FolderFault = Tried folder_fault_line before.note after.note
+Noted words files before after SinkFault = (OutRose before after × Tried output_fault_line before.note after.note) ⊎ RefusesLine words files before.note after.note
+Noted words files before after Memory = Tried no_memory_line before.note after.note
+Noted words files before after NotBuilt = Tried not_built_line before.note after.note
+Noted words files before after other = ⊥
 
 -- All of it ------------------------------------------------------------------------------------------------------------
 
@@ -177,13 +183,16 @@ pub record Keeps (words : List (List ℕ)) (files : Contents) (input : List ℕ)
   -- no status hides a fault
   pub hides_no_fault : HidesNoFault before after status
   pub counts : CountsGrow before after
-  -- what stands after the call, whatever its status
+  -- what stands after the call, whatever its status, and by which calls it came there
   pub stands : GoesNoFurther (answer_of words files input) input before after
-  pub silent : PutsNothing before after status
-  pub noted : Noted words before after status
-  pub unchanged : after.files ≡ before.files
+  pub printed : Printed (answer_of words files input) before after status
+  pub noted : Noted words files before after status
+  pub asks_once : AsksOnce words before after
+  -- no file changes, and no straight program asks for input
+  pub unchanged : after.folder.files ≡ before.folder.files
+  pub untouched : after.input ≡ before.input
 
 -- the contract of `slang`
 abbrev pub Promise : List (List ℕ) → Outside → Outside → Status → Type 0
 Promise words before after status =
-    (files : Contents) × (input : List ℕ) × IsTold before.files files × IsTold before.left input × Keeps words files input before after status
+    (files : Contents) × (input : List ℕ) × IsTold before.folder.files files × IsTold before.input.left input × Keeps words files input before after status

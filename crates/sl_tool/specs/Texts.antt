@@ -1,30 +1,39 @@
--- The lines that go with the statuses that come today. Each ends with a line feed.
+-- The lines that go with the statuses, each ended by a line feed.
 use Rattle.std.specs.Prelude.{ℕ, ℤ, List, ◌++◌, codes}
 use Rattle.std.specs.Fmt.{signed_decimal}
 
+-- 64: the words have no reading
 abbrev pub usage_line : List ℕ
 usage_line = codes "usage: check, emit, run, step, stack or sample\n"
 
-abbrev pub no_file_line : List ℕ → List ℕ
-no_file_line file = codes "no file " ++ file ++ codes "\n"
-
+-- 67: the run needs more turns than it has
 abbrev pub turns_spent_line : List ℕ
 turns_spent_line = codes "turns spent\n"
 
+-- 68: the live frames would pass the stack limit
+abbrev pub stack_spent_line : List ℕ
+stack_spent_line = codes "stack spent\n"
+
+-- 69: the exit value is outside 0 to 63
 abbrev pub exit_value_line : ℤ → List ℕ
 exit_value_line value = codes "exit value " ++ signed_decimal value ++ codes "\n"
 
+-- 72: a named file isn't there
+abbrev pub no_file_line : List ℕ → List ℕ
+no_file_line file = codes "no file " ++ file ++ codes "\n"
+
+-- 73: the folder failed
 abbrev pub folder_fault_line : List ℕ
 folder_fault_line = codes "folder fault\n"
 
-abbrev pub input_fault_line : List ℕ
-input_fault_line = codes "input fault\n"
-
+-- 75: an output failed
 abbrev pub output_fault_line : List ℕ
 output_fault_line = codes "output fault\n"
 
+-- 76: memory ran out
 abbrev pub no_memory_line : List ℕ
 no_memory_line = codes "no memory\n"
 
+-- 77: the source isn't built yet
 abbrev pub not_built_line : List ℕ
 not_built_line = codes "not built\n"

@@ -2,6 +2,9 @@
 #![tactic(auto)]
 
 ghost use Rattle.std.specs.Prelude.{map, string_bytes};
+ghost use Rattle.sl_outside.specs.Folder.{folder_state};
+ghost use Rattle.sl_outside.specs.Source.{source_state};
+ghost use Rattle.sl_outside.specs.Sink.{sink_state};
 ghost use Rattle.sl_tool.specs.Outside.{outside};
 ghost use Rattle.sl_tool.specs.Promise.{Promise};
 
@@ -32,8 +35,16 @@ pub fn slang<F: Folder, S: Source, K: Sink, N: Sink>(
     note: &mut N,
 ) -> Status
     ensures { Promise (map string_bytes words.now.items)
-        (outside (F.files folder.old) (F.faults folder.old) (S.left input.old) (S.faults input.old) (K.held out.old) (K.faults out.old) (N.held note.old) (N.faults note.old))
-        (outside (F.files folder.new) (F.faults folder.new) (S.left input.new) (S.faults input.new) (K.held out.new) (K.faults out.new) (N.held note.new) (N.faults note.new))
+        (outside
+            (folder_state (F.files folder.old) (F.faults folder.old) (F.calls folder.old))
+            (source_state (S.left input.old) (S.faults input.old) (S.calls input.old))
+            (sink_state (K.held out.old) (K.faults out.old) (K.calls out.old))
+            (sink_state (N.held note.old) (N.faults note.old) (N.calls note.old)))
+        (outside
+            (folder_state (F.files folder.new) (F.faults folder.new) (F.calls folder.new))
+            (source_state (S.left input.new) (S.faults input.new) (S.calls input.new))
+            (sink_state (K.held out.new) (K.faults out.new) (K.calls out.new))
+            (sink_state (N.held note.new) (N.faults note.new) (N.calls note.new)))
         result }
 {
     let Some(file) = file_to_run(words.as_slice()) else {

@@ -1,8 +1,9 @@
 // `run FILE`: a straight file is read and walked.
 ghost use Rattle.std.specs.Prelude.{◌≡◌, ◌++◌, ◌∷◌, []};
-ghost use Rattle.sl_outside.specs.Faults.{HasCause};
-ghost use Rattle.sl_outside.specs.Sink.{Put};
-ghost use Rattle.sl_tool.specs.Parts.{output_of, RunsFile, is_folder_fault, is_sink_fault};
+ghost use Rattle.sl_outside.specs.Counts.{HasCause, one_more};
+ghost use Rattle.sl_outside.specs.Sink.{Prints, sink_state};
+ghost use Rattle.sl_tool.specs.Straight.{ended};
+ghost use Rattle.sl_tool.specs.Parts.{RunsFile, is_folder_fault};
 
 use crate::straight::read_straight;
 use sl_outside::{Failed, Folder, Refused, Sink};
@@ -57,10 +58,13 @@ pub fn run_file<F: Folder, K: Sink>(
     folder: &mut F,
     out: &mut K,
 ) -> Result<u8, Stop>
-    ensures ran { RunsFile (F.files folder.old) file.now (K.held out.old) (K.held out.new) result }
+    ensures ran { RunsFile (F.files folder.old) file.now
+        (sink_state (K.held out.old) (K.faults out.old) (K.calls out.old))
+        (sink_state (K.held out.new) (K.faults out.new) (K.calls out.new))
+        result }
     ensures files { F.files folder.new ≡ F.files folder.old }
-    ensures folder_cause { HasCause (is_folder_fault result) (F.faults folder.old) (F.faults folder.new) }
-    ensures out_cause { HasCause (is_sink_fault result) (K.faults out.old) (K.faults out.new) }
+    ensures cause { HasCause (is_folder_fault result) (F.faults folder.old) (F.faults folder.new) }
+    ensures counted { F.calls folder.new ≡ one_more (F.calls folder.old) }
 {
     let Some(bytes) = folder.read(alloc, file)? else {
         return Err(Stop::NoFile);
@@ -75,7 +79,9 @@ pub fn run_file<F: Folder, K: Sink>(
 }
 
 fn print_texts<K: Sink>(out: &mut K, texts: &[Row<u8>]) -> Result<(), Failed>
-    ensures { Put (output_of texts.now) (record { held = K.held out.old; faults = K.faults out.old }) (record { held = K.held out.new; faults = K.faults out.new }) result }
+    ensures { Prints (ended texts.now)
+        (sink_state (K.held out.old) (K.faults out.old) (K.calls out.old))
+        (sink_state (K.held out.new) (K.faults out.new) (K.calls out.new)) result }
 {
     for text in texts {
         print_text(out, text.as_slice())?;
@@ -84,7 +90,9 @@ fn print_texts<K: Sink>(out: &mut K, texts: &[Row<u8>]) -> Result<(), Failed>
 }
 
 fn print_text<K: Sink>(out: &mut K, text: &[u8]) -> Result<(), Failed>
-    ensures { Put (text.now ++ 10 ∷ []) (record { held = K.held out.old; faults = K.faults out.old }) (record { held = K.held out.new; faults = K.faults out.new }) result }
+    ensures { Prints (text.now ++ 10 ∷ [])
+        (sink_state (K.held out.old) (K.faults out.old) (K.calls out.old))
+        (sink_state (K.held out.new) (K.faults out.new) (K.calls out.new)) result }
 {
     put_bytes(out, text)?;
     out.put(b"\n")
@@ -92,7 +100,9 @@ fn print_text<K: Sink>(out: &mut K, text: &[u8]) -> Result<(), Failed>
 
 /// Puts each byte as a piece of its own, as the run of a program does.
 fn put_bytes<K: Sink>(out: &mut K, bytes: &[u8]) -> Result<(), Failed>
-    ensures { Put bytes.now (record { held = K.held out.old; faults = K.faults out.old }) (record { held = K.held out.new; faults = K.faults out.new }) result }
+    ensures { Prints bytes.now
+        (sink_state (K.held out.old) (K.faults out.old) (K.calls out.old))
+        (sink_state (K.held out.new) (K.faults out.new) (K.calls out.new)) result }
 {
     for byte in bytes {
         out.put(&[*byte])?;

@@ -2,7 +2,7 @@
 ghost use Rattle.std.specs.Prelude.{◌≡◌};
 ghost use Rattle.sl_tool.specs.Texts.{usage_line};
 ghost use Rattle.sl_tool.specs.declared.status.Status.TheVariants as status;
-ghost use Rattle.sl_outside.specs.Sink.{Tried};
+ghost use Rattle.sl_outside.specs.Sink.{Tried, sink_state};
 ghost use Rattle.sl_tool.specs.Parts.{Tells, TellsStop};
 
 use crate::Status;
@@ -22,7 +22,9 @@ const NOT_BUILT: &[u8] = b"not built\n";
 
 /// Tries the line of a status from 73 to 77, whose refusal changes nothing.
 fn try_line<N: Sink>(note: &mut N, status: Status, line: &[u8]) -> Status
-    ensures tried { Tried line.now (record { held = N.held note.old; faults = N.faults note.old }) (record { held = N.held note.new; faults = N.faults note.new }) }
+    ensures tried { Tried line.now
+        (sink_state (N.held note.old) (N.faults note.old) (N.calls note.old))
+        (sink_state (N.held note.new) (N.faults note.new) (N.calls note.new)) }
     ensures status { result ≡ status }
 {
     let _ = note.put(line);
@@ -31,7 +33,9 @@ fn try_line<N: Sink>(note: &mut N, status: Status, line: &[u8]) -> Status
 
 /// Puts the line of a status from 64 to 72. Where it is refused, the status is that of a fault of an output.
 fn put_line<N: Sink>(note: &mut N, status: Status, line: &[u8]) -> Status
-    ensures { Tells line.now status (record { held = N.held note.old; faults = N.faults note.old }) (record { held = N.held note.new; faults = N.faults note.new }) result }
+    ensures { Tells line.now status
+        (sink_state (N.held note.old) (N.faults note.old) (N.calls note.old))
+        (sink_state (N.held note.new) (N.faults note.new) (N.calls note.new)) result }
 {
     match note.put(line) {
         Ok(()) => status,
@@ -41,14 +45,18 @@ fn put_line<N: Sink>(note: &mut N, status: Status, line: &[u8]) -> Status
 
 /// Tells that the words have no reading.
 pub fn tell_usage<N: Sink>(note: &mut N) -> Status
-    ensures { Tells usage_line status.Usage (record { held = N.held note.old; faults = N.faults note.old }) (record { held = N.held note.new; faults = N.faults note.new }) result }
+    ensures { Tells usage_line status.Usage
+        (sink_state (N.held note.old) (N.faults note.old) (N.calls note.old))
+        (sink_state (N.held note.new) (N.faults note.new) (N.calls note.new)) result }
 {
     put_line(note, Status::Usage, USAGE)
 }
 
 /// Tells why a file was not run to its end.
 pub fn tell_stop<N: Sink>(alloc: Global, file: &str, stop: Stop, note: &mut N) -> Status
-    ensures { TellsStop file.now stop (record { held = N.held note.old; faults = N.faults note.old }) (record { held = N.held note.new; faults = N.faults note.new }) result }
+    ensures { TellsStop file.now stop
+        (sink_state (N.held note.old) (N.faults note.old) (N.calls note.old))
+        (sink_state (N.held note.new) (N.faults note.new) (N.calls note.new)) result }
 {
     match stop {
         Stop::NoFile => tell_no_file(alloc, file, note),
@@ -60,7 +68,9 @@ pub fn tell_stop<N: Sink>(alloc: Global, file: &str, stop: Stop, note: &mut N) -
 }
 
 fn tell_no_file<N: Sink>(alloc: Global, file: &str, note: &mut N) -> Status
-    ensures { TellsStop file.now Stop.NoFile (record { held = N.held note.old; faults = N.faults note.old }) (record { held = N.held note.new; faults = N.faults note.new }) result }
+    ensures { TellsStop file.now Stop.NoFile
+        (sink_state (N.held note.old) (N.faults note.old) (N.calls note.old))
+        (sink_state (N.held note.new) (N.faults note.new) (N.calls note.new)) result }
 {
     match format!(in alloc; "no file {file}\n") {
         Ok(line) => put_line(note, Status::NoFile, line.as_bytes()),

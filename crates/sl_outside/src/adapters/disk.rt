@@ -1,5 +1,5 @@
 ghost use Rattle.std.specs.Prelude.{◌≡◌, ◌<◌, ◌≤◌, ◌^◌, length, IfOk, IfSome, IsErr};
-ghost use Rattle.sl_outside.specs.Adapters.{disk_faults};
+ghost use Rattle.sl_outside.specs.Adapters.{disk_faults, disk_calls};
 
 use super::streams::write_whole;
 use crate::{Folder, Refused};
@@ -21,25 +21,34 @@ const BUFFER_LEN: usize = 8192;
 pub struct FolderOnDisk<'a, R: Files> {
     rt: &'a R,
     faults: u64,
+    calls: u64,
 }
 
 impl<'a, R: Files> FolderOnDisk<'a, R> {
     pub fn new(rt: &'a R) -> FolderOnDisk<'a, R>
         ensures no_faults { disk_faults result ≡ 0 }
+        ensures no_calls { disk_calls result ≡ 0 }
     {
-        FolderOnDisk { rt, faults: 0 }
+        FolderOnDisk {
+            rt,
+            faults: 0,
+            calls: 0,
+        }
     }
 }
 
 impl<'a, R: Files> Folder for FolderOnDisk<'a, R> {
     ghost use Rattle.std.specs.Prelude.{None};
-    ghost use Rattle.sl_outside.specs.Adapters.{disk_faults};
+    ghost use Rattle.sl_outside.specs.Adapters.{disk_faults, disk_calls};
 
     ghost files = { λ _. None };
 
     ghost faults = { disk_faults };
 
+    ghost calls = { disk_calls };
+
     fn read(&mut self, alloc: Global, name: &str) -> Result<Option<Row<u8>>, Refused> {
+        self.calls = self.calls.saturating_add(1);
         let found = read_file(alloc, self.rt, name);
         if let Err(Refused::Failed) = &found {
             self.faults = self.faults.saturating_add(1);
@@ -48,6 +57,7 @@ impl<'a, R: Files> Folder for FolderOnDisk<'a, R> {
     }
 
     fn write(&mut self, _alloc: Global, name: &str, bytes: &[u8]) -> Result<(), Refused> {
+        self.calls = self.calls.saturating_add(1);
         let written = write_file(self.rt, name, bytes);
         if let Err(Refused::Failed) = &written {
             self.faults = self.faults.saturating_add(1);

@@ -1,5 +1,5 @@
 ghost use Rattle.std.specs.Prelude.{◌≡◌};
-ghost use Rattle.sl_outside.specs.Adapters.{input_reader, input_faults, output_writer, output_faults, ByteRead, WholeWritten};
+ghost use Rattle.sl_outside.specs.Adapters.{input_reader, input_faults, input_calls, output_writer, output_faults, output_calls, ByteRead, WholeWritten};
 
 use crate::{Failed, Sink, Source};
 use std::io;
@@ -11,25 +11,34 @@ use std::io::{ErrorKind, Read, Write};
 pub struct SourceOnInput<R: Read + Drop> {
     reader: R,
     faults: u64,
+    calls: u64,
 }
 
 impl<R: Read + Drop> SourceOnInput<R> {
     pub fn new(reader: R) -> SourceOnInput<R>
         ensures reader { input_reader result ≡ reader }
         ensures no_faults { input_faults result ≡ 0 }
+        ensures no_calls { input_calls result ≡ 0 }
     {
-        SourceOnInput { reader, faults: 0 }
+        SourceOnInput {
+            reader,
+            faults: 0,
+            calls: 0,
+        }
     }
 }
 
 impl<R: Read + Drop> Source for SourceOnInput<R> {
-    ghost use Rattle.sl_outside.specs.Adapters.{input_reader, input_faults};
+    ghost use Rattle.sl_outside.specs.Adapters.{input_reader, input_faults, input_calls};
 
     ghost left = { λ s. R.remaining (input_reader s) };
 
     ghost faults = { input_faults };
 
+    ghost calls = { input_calls };
+
     fn next(&mut self) -> Result<Option<u8>, Failed> {
+        self.calls = self.calls.saturating_add(1);
         match read_byte(&mut self.reader) {
             Ok(next) => Ok(next),
             Err(_) => {
@@ -65,25 +74,34 @@ fn read_byte<R: Read>(reader: &mut R) -> io::Result<Option<u8>>
 pub struct SinkOnOutput<W: Write + Drop> {
     writer: W,
     faults: u64,
+    calls: u64,
 }
 
 impl<W: Write + Drop> SinkOnOutput<W> {
     pub fn new(writer: W) -> SinkOnOutput<W>
         ensures writer { output_writer result ≡ writer }
         ensures no_faults { output_faults result ≡ 0 }
+        ensures no_calls { output_calls result ≡ 0 }
     {
-        SinkOnOutput { writer, faults: 0 }
+        SinkOnOutput {
+            writer,
+            faults: 0,
+            calls: 0,
+        }
     }
 }
 
 impl<W: Write + Drop> Sink for SinkOnOutput<W> {
-    ghost use Rattle.sl_outside.specs.Adapters.{output_writer, output_faults};
+    ghost use Rattle.sl_outside.specs.Adapters.{output_writer, output_faults, output_calls};
 
     ghost held = { λ s. W.contents (output_writer s) };
 
     ghost faults = { output_faults };
 
+    ghost calls = { output_calls };
+
     fn put(&mut self, bytes: &[u8]) -> Result<(), Failed> {
+        self.calls = self.calls.saturating_add(1);
         match write_whole(&mut self.writer, bytes) {
             Ok(()) => Ok(()),
             Err(_) => {

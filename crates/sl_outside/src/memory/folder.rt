@@ -1,5 +1,5 @@
 ghost use Rattle.std.specs.Prelude.{◌≡◌, IfOk, IfErr, IfNone, IfSome, OnOk, OnErr, MatchResult};
-ghost use Rattle.sl_outside.specs.Faults.{HasCause};
+ghost use Rattle.sl_outside.specs.Counts.{HasCause, one_more};
 ghost use Rattle.sl_outside.specs.Folder.{WriteGives, is_fault};
 ghost use Rattle.sl_outside.specs.Entries.{contents_of, stored, StoresAt, StoresAtEnd};
 
@@ -12,22 +12,23 @@ use std::marker::Model;
 #[derive(Drop)]
 pub struct SureFolder {
     files: Row<(Text, Row<u8>)>,
+    calls: u64,
 }
 
 impl Model for SureFolder {
-    ghost use Rattle.std.specs.Prelude.{List, ℕ};
+    ghost use Rattle.sl_outside.specs.Entries.{SureFolderState};
 
-    ghost Value = { List (List ℕ × List ℕ) };
+    ghost Value = { SureFolderState };
 
-    ghost view = { λ f. f.files };
+    ghost view = { λ f. record { files = f.files; calls = f.calls } };
 }
 
 impl SureFolder {
     /// A folder with these files. Where a name stands twice, the first counts.
     pub fn new(files: Row<(Text, Row<u8>)>) -> SureFolder
-        ensures { result ≡ files }
+        ensures { result ≡ record { files = files; calls = 0 } }
     {
-        SureFolder { files }
+        SureFolder { files, calls: 0 }
     }
 }
 
@@ -35,19 +36,24 @@ impl Folder for SureFolder {
     ghost use Rattle.std.specs.Prelude.{Some};
     ghost use Rattle.sl_outside.specs.Entries.{contents_of};
 
-    ghost files = { λ f. Some (contents_of f) };
+    ghost files = { λ f. Some (contents_of f.files) };
 
     ghost faults = { λ _. 0 };
 
+    ghost calls = { λ f. f.calls };
+
     fn read(&mut self, alloc: Global, name: &str) -> Result<Option<Row<u8>>, Refused> {
+        self.calls = self.calls.saturating_add(1);
         read_entry(alloc, self.files.as_slice(), name)
     }
 
     fn write(&mut self, alloc: Global, name: &str, bytes: &[u8]) -> Result<(), Refused>
-        ensures written { WriteGives (Some (contents_of self.old)) (Some (contents_of self.new)) name.now bytes.now result }
+        ensures written { WriteGives (Some (contents_of self.old.files)) (Some (contents_of self.new.files)) name.now bytes.now result }
         ensures cause { HasCause (is_fault result) 0 0 }
-        ensures listed { MatchResult result (λ _. self.new ≡ stored self.old name.now bytes.now) (λ _. self.new ≡ self.old) }
+        ensures counted { self.new.calls ≡ one_more self.old.calls }
+        ensures listed { MatchResult result (λ _. self.new.files ≡ stored self.old.files name.now bytes.now) (λ _. self.new.files ≡ self.old.files) }
     {
+        self.calls = self.calls.saturating_add(1);
         write_entry(alloc, &mut self.files, name, bytes)
     }
 }

@@ -1,5 +1,5 @@
 ghost use Rattle.std.specs.Prelude.{◌≡◌, [], IfOk, Some, is_err};
-ghost use Rattle.sl_outside.specs.Faults.{HasCause};
+ghost use Rattle.sl_outside.specs.Counts.{HasCause, one_more};
 ghost use Rattle.sl_outside.specs.Sink.{PutGives};
 ghost use Rattle.sl_outside.specs.Numbered.{PutAnswers};
 
@@ -60,9 +60,12 @@ impl Sink for MemorySink {
 
     ghost faults = { λ s. s.faults };
 
+    ghost calls = { λ s. s.calls };
+
     fn put(&mut self, bytes: &[u8]) -> Result<(), Failed>
         ensures taken { PutGives (Some self.old.held) (Some self.new.held) bytes.now result }
         ensures cause { HasCause (is_err result) self.old.faults self.new.faults }
+        ensures counted { self.new.calls ≡ one_more self.old.calls }
         ensures answers { PutAnswers self.old self.new bytes.now result }
     {
         self.calls = self.calls.saturating_add(1);

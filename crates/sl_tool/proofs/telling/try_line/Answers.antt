@@ -1,4 +1,4 @@
 use Rattle.sl_tool.proofs.telling.try_line.Goals as goal
 
 pub returns-clause-tried : goal.returns-clause-tried
-returns-clause-tried g c = (c.put.result, (c.put.ensures.taken, c.put.ensures.cause))
+returns-clause-tried g c = (c.put.result, record { taken = c.put.ensures.taken; cause = c.put.ensures.cause; counted = c.put.ensures.counted })

@@ -1,7 +1,9 @@
+use Rattle.std.proofs.Common.{ap, sym}
 use Rattle.sl_outside.proofs.Listed.{writes}
 use Rattle.sl_outside.proofs.memory.folder.SureFolderFolder.write.Goals as goal
 
 pub returns-clause-written : goal.returns-clause-written
 returns-clause-written c =
-    writes c.args.self.now c.write_entry.new.entries c.args.name.now c.args.bytes.now c.write_entry.result
-    (rw (← c.self.view_is) c.write_entry.ensures.ok) (rw (← c.self.view_is) c.write_entry.ensures.err) c.write_entry.ensures.refused
+    rw (← c.self.view_is)
+    (writes c.self.inside.files c.write_entry.new.entries c.args.name.now c.args.bytes.now c.write_entry.result
+     c.write_entry.ensures.ok c.write_entry.ensures.err c.write_entry.ensures.refused)

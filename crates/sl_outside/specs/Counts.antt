@@ -1,5 +1,5 @@
--- Counts of faults: how often a folder, a source or a sink failed. A count never falls, and stands still at 2 ^ 64 - 1, which is
--- its end.
+-- Counts: how often a folder, a source or a sink failed, and how often it was called. A count never falls, and stands still at
+-- 2 ^ 64 - 1, which is its end.
 use Rattle.std.specs.Prelude.{◌≡◌, ℕ, ◌+◌, ◌-◌, ◌^◌, ◌≤◌, min, Bool, IsTrue, not}
 
 -- the count rose, or stands at its end. Code that has only the trait's methods cannot raise a count by itself, so an answer
@@ -14,3 +14,7 @@ pub record HasCause (is_fault : Bool) (before now : ℕ) : Type 0 where
   pub by_one : now ≤ before + 1
   pub stayed : IsTrue (not is_fault) → now ≡ before
   pub no_lower : before ≤ now
+
+-- one more, up to the greatest number that a count can have
+abbrev pub one_more : ℕ → ℕ
+one_more n = min (n + 1) (2 ^ 64 - 1)

@@ -1,0 +1,91 @@
+-- Bytes that are put one after another, each by a call of its own.
+use Rattle.std.proofs.Common.{◌≡◌, ℕ, suc, ◌+◌, ◌<◌, ◌≤◌, List, [], ◌∷◌, ◌++◌, length, take, drop, get_or, Option, Some, None, refl, sym, ap, ◌∙◌, subst, append_assoc, append-nil, inl, inr, arith}
+use Rattle.std.specs.Prelude.{Result, Ok, Err, IsErr}
+use Rattle.std.specs.List.{flat_map}
+use Rattle.std.proofs.Math.Seq.{drop-cons}
+use Rattle.std.proofs.lemmas.List.{take-append-drop, take_more}
+use Rattle.std.proofs.lemmas.Grind.{flat_map-append}
+use Rattle.sl_outside.specs.declared.source.Failed.{Failed}
+use Rattle.sl_outside.specs.Counts.{Rose}
+use Rattle.sl_outside.specs.Sink.{PutGives, IsPrefix, SinkState, Put, Prints}
+use Rattle.sl_tool.proofs.Noting.{gave, gave_prefix}
+
+-- one byte
+pub prints_one : (byte : ℕ) (a b : SinkState) (result : Result (Unit {0}) Failed) → Put (byte ∷ []) a b result → Prints (byte ∷ []) a b result
+prints_one byte a b (Ok done) put = inl (b, put, refl)
+prints_one byte a b (Err failed) put = inr (refl, put)
+
+-- bytes, and then others
+pub prints_then : (xs ys : List ℕ) (a b c : SinkState) (result : Result (Unit {0}) Failed) → Prints xs a b (Ok tt) → Prints ys b c result → Prints (xs ++ ys) a c result
+prints_then [] ys a b c result h k = subst (λ s. Prints ys s c result) h k
+prints_then (x ∷ xs) ys a b c result (inl (m, put, rest)) k = inl (m, put, prints_then xs ys m b c result rest k)
+prints_then (x ∷ xs) ys a b c result (inr (e, put)) k = absurd (cc e)
+
+-- bytes of which one failed stop those behind them
+pub prints_stop : (xs ys : List ℕ) (a b : SinkState) (failed : Failed) → Prints xs a b (Err failed) → Prints (xs ++ ys) a b (Err failed)
+prints_stop [] ys a b failed h = absurd h
+prints_stop (x ∷ xs) ys a b failed (inl (m, put, rest)) = inl (m, put, prints_stop xs ys m b failed rest)
+prints_stop (x ∷ xs) ys a b failed (inr (e, put)) = inr (e, put)
+
+-- a failure, whichever value tells it
+pub prints_failure : (xs : List ℕ) (a b : SinkState) (failed : Failed) (result : Result (Unit {0}) Failed) → IsErr result → Prints xs a b (Err failed) → Prints xs a b result
+prints_failure xs a b failed (Ok done) e h = absurd (cc e)
+prints_failure xs a b failed (Err other) e h = h
+
+-- the same bytes by another name
+pub prints_same : (a b : SinkState) (xs ys : List ℕ) (result : Result (Unit {0}) Failed) → xs ≡ ys → Prints xs a b result → Prints ys a b result
+prints_same a b xs ys result e h = subst (λ bytes. Prints bytes a b result) e h
+
+-- a list, cut at one of its elements
+pub cut_at : {X : Type 0} (xs : List X) (i : ℕ) (x d : X) → i < length xs → x ≡ get_or xs i d → take i xs ++ (x ∷ drop (suc i) xs) ≡ xs
+cut_at xs i x d within is = ap (λ y. take i xs ++ (y ∷ drop (suc i) xs)) is ∙ (ap (λ rest. take i xs ++ rest) (sym (drop-cons xs i d within)) ∙ take-append-drop i xs)
+
+-- what a list of elements prints, one after another, where the one at i failed
+pub prints_up_to : {X : Type 0} (f : X → List ℕ) (xs : List X) (i : ℕ) (x d : X) (a b c : SinkState) (failed : Failed) → i < length xs → x ≡ get_or xs i d → Prints (flat_map f (take i xs)) a b (Ok tt) → Prints (f x) b c (Err failed) → Prints (flat_map f xs) a c (Err failed)
+prints_up_to f xs i x d a b c failed within is h k =
+    prints_same a c ((flat_map f (take i xs) ++ f x) ++ flat_map f (drop (suc i) xs)) (flat_map f xs) (Err failed)
+    (append_assoc (flat_map f (take i xs)) (f x) (flat_map f (drop (suc i) xs))
+     ∙ (sym (flat_map-append f (take i xs) (x ∷ drop (suc i) xs)) ∙ ap (flat_map f) (cut_at xs i x d within is)))
+    (prints_stop (flat_map f (take i xs) ++ f x) (flat_map f (drop (suc i) xs)) a c failed (prints_then (flat_map f (take i xs)) (f x) a b c (Err failed) h k))
+
+-- and where the one at i was printed too
+pub prints_more : {X : Type 0} (f : X → List ℕ) (xs : List X) (i : ℕ) (x d : X) (a b c : SinkState) → i < length xs → x ≡ get_or xs i d → Prints (flat_map f (take i xs)) a b (Ok tt) → Prints (f x) b c (Ok tt) → Prints (flat_map f (take (i + 1) xs)) a c (Ok tt)
+prints_more f xs i x d a b c within is h k =
+    prints_same a c (flat_map f (take i xs) ++ f x) (flat_map f (take (i + 1) xs)) (Ok tt)
+    (ap (λ rest. flat_map f (take i xs) ++ rest) (sym (append-nil (f x))) ∙ (sym (flat_map-append f (take i xs) (x ∷ [])) ∙ ap (flat_map f) (ap (λ y. take i xs ++ (y ∷ [])) is ∙ sym (take_more xs i d within))))
+    (prints_then (flat_map f (take i xs)) (f x) a b c (Ok tt) h k)
+
+-- bytes, each as a list of one
+pub singles : (bytes : List ℕ) → flat_map (λ byte. byte ∷ []) bytes ≡ bytes
+singles [] = refl
+singles (byte ∷ bytes) = ap (λ rest. byte ∷ rest) (singles bytes)
+
+-- what a sink holds behind bytes that were all put
+pub printed_whole : (xs : List ℕ) (a b : SinkState) (held : List ℕ) → a.held ≡ Some held → Prints xs a b (Ok tt) → b.held ≡ Some (held ++ xs)
+printed_whole [] a b held e h = ap (λ s. s.held) h ∙ (e ∙ ap Some (sym (append-nil held)))
+printed_whole (x ∷ xs) a b held e (inl (m, put, rest)) =
+    printed_whole xs m b (held ++ x ∷ []) (gave a.held m.held held (x ∷ []) e put.taken) rest ∙ ap Some (append_assoc held (x ∷ []) xs)
+printed_whole (x ∷ xs) a b held e (inr (f, put)) = absurd (cc f)
+
+-- and in any case a prefix of them
+pub printed_prefix : (xs : List ℕ) (a b : SinkState) (held : List ℕ) (result : Result (Unit {0}) Failed) → a.held ≡ Some held → Prints xs a b result → (prefix : List ℕ) × IsPrefix prefix xs × (b.held ≡ Some (held ++ prefix))
+printed_prefix [] a b held (Ok done) e h = ([], ([], refl), ap (λ s. s.held) h ∙ (e ∙ ap Some (sym (append-nil held))))
+printed_prefix [] a b held (Err failed) e h = absurd h
+printed_prefix (x ∷ xs) a b held result e (inl (m, put, rest)) =
+    let (prefix, is, told) = printed_prefix xs m b (held ++ x ∷ []) result (gave a.held m.held held (x ∷ []) e put.taken) rest in
+    (x ∷ prefix, (is.0, ap (λ rest. x ∷ rest) is.1), told ∙ ap Some (append_assoc held (x ∷ []) prefix))
+printed_prefix (x ∷ xs) a b held result e (inr (f, put)) =
+    let (prefix, is, told) = gave_prefix a.held b.held held (x ∷ []) (Err (record {})) e put.taken in
+    (prefix, (is.0 ++ xs, ap (λ front. front ++ xs) is.1 ∙ append_assoc prefix is.0 xs), told)
+
+-- no count of faults rose where all were put
+pub printed_calm : (xs : List ℕ) (a b : SinkState) → Prints xs a b (Ok tt) → b.faults ≡ a.faults
+printed_calm [] a b h = ap (λ s. s.faults) h
+printed_calm (x ∷ xs) a b (inl (m, put, rest)) = printed_calm xs m b rest ∙ put.cause.stayed refl
+printed_calm (x ∷ xs) a b (inr (f, put)) = absurd (cc f)
+
+-- and it rose where one failed
+pub printed_rose : (xs : List ℕ) (a b : SinkState) (failed : Failed) → Prints xs a b (Err failed) → Rose a.faults b.faults × (a.faults ≤ b.faults)
+printed_rose [] a b failed h = absurd h
+printed_rose (x ∷ xs) a b failed (inl (m, put, rest)) = subst (λ n. Rose n b.faults × (n ≤ b.faults)) (put.cause.stayed refl) (printed_rose xs m b failed rest)
+printed_rose (x ∷ xs) a b failed (inr (f, put)) = (put.cause.rose refl, put.cause.no_lower)
