@@ -1,7 +1,14 @@
 -- Parts of runs that go alike, put together, go alike.
-use Rattle.std.proofs.Common.{◌≡◌, ℕ, zero, suc, ◌+◌, List, [], ◌∷◌, ◌++◌, Option, refl, ap, ap₂, subst, add-zero, Bool, true, false}
-use Rattle.sl_run.specs.Run.{Ending, Event, Puts, Asks, Trace, Step, Went, Over, Act, pure, over, step_then, ◌>>=◌, ◌>>◌, choose, put, put_all, first_of, rest_of, get, copy, turn_at, turn, passes, keep_within, loop_within, loop, calls_within, calls}
+use Rattle.std.proofs.Common.{◌≡◌, ℕ, zero, suc, ◌+◌, List, [], ◌∷◌, ◌++◌, Option, Some, None, refl, ap, ap₂, subst, add-zero, max, Bool, true, false, if◌then◌else◌}
+use Rattle.sl_run.specs.Run.{Ending, TurnsSpent, StackSpent, Event, Puts, Asks, Trace, Step, Went, Over, Act, pure, over, step_then, ◌>>=◌, ◌>>◌, choose, put, put_all, first_of, rest_of, get, copy, turn_at, turn, passes, keep_within, turn_within_at, turn_within, round_then, loop_within, loop, calls_within, calls}
 use Rattle.sl_run.specs.Alike.{SameSoFar, Alike, Follows, KeepsCopies, Same}
+
+-- two rounds gave the like: both nothing, or related values
+abbrev pub BothGive : {A B : Type 0} → (A → B → Type 0) → Option A → Option B → Type 0
+BothGive val None None = Unit {0}
+BothGive val (Some x) (Some y) = val x y
+BothGive val None (Some y) = ⊥
+BothGive val (Some x) None = ⊥
 
 module _ {S R : Type 0} (copies : ℕ → ℕ → Type 0) (on : S → R → Type 0) where
   -- what comes after parts that ended alike
@@ -77,29 +84,72 @@ module _ {S R : Type 0} (copies : ℕ → ℕ → Type 0) (on : S → R → Type
       at true = h
       at false = k
 
+  -- what a test leads to
+  if_alike : {A B : Type 0} (val : A → B → Type 0) (c d : Bool) (x y : Step S A) (x' y' : Step R B) → c ≡ d → Alike copies on val x x' → Alike copies on val y y' → Alike copies on val (if c then x else y) (if d then x' else y')
+  if_alike val c d x y x' y' e h k = subst (λ d. Alike copies on val (if c then x else y) (if d then x' else y')) e (at c)
+    where
+      at : (c : Bool) → Alike copies on val (if c then x else y) (if c then x' else y')
+      at true = h
+      at false = k
+
   -- live bytes that pass the limit of the stack on both sides, or on neither
   pub keep_within_follows : (limit limit' : Option ℕ) (live live' : ℕ) → limit ≡ limit' → live ≡ live' → Follows copies on Same (keep_within limit live) (keep_within limit' live')
-  keep_within_follows limit limit' live live' h k = choose_follows Same (passes limit live) (passes limit' live') _ _ _ _ (ap₂ passes h k) (over_follows (Same {A = Unit {0}}) _ _ refl) (pure_follows Same tt tt refl)
+  keep_within_follows limit limit' live live' h k t u s r same o =
+      if_alike (Same {A = Unit {0}}) (passes limit live) (passes limit' live') (Over StackSpent t) (Went tt (record t { peak = max t.peak live }) s) (Over StackSpent u) (Went tt (record u { peak = max u.peak live' }) r) (ap₂ passes h k)
+      (refl, same)
+      (refl, record { events = same.events; rest = same.rest; left = same.left; made = same.made }, o)
 
-  -- loops with a bound
-  loop_within_follows : (n : ℕ) (a : Act S Bool) (b : Act R Bool) → Follows copies on Same a b → Follows copies on Same (loop_within n a) (loop_within n b)
-  loop_within_follows zero a b h = over_follows (Same {A = Unit {0}}) _ _ refl
-  loop_within_follows (suc n) a b h =
-      bind_follows Same Same turn turn _ _ turn_follows (λ x y e.
-      bind_follows Same Same a b _ _ h (λ c d f.
-      choose_follows Same c d _ _ _ _ f (loop_within_follows n a b h) (pure_follows Same tt tt refl)))
+  -- a turn of so many, for a frame
+  turn_within_at_follows : (n : ℕ) (limit limit' : Option ℕ) (live live' : ℕ) → limit ≡ limit' → live ≡ live' → (t u : Trace) (s : S) (r : R) → SameSoFar copies t u → on s r → Alike copies on (Same {A = Unit {0}}) (turn_within_at n limit live t s) (turn_within_at n limit' live' u r)
+  turn_within_at_follows zero limit limit' live live' h k t u s r same o = (refl, same)
+  turn_within_at_follows (suc n) limit limit' live live' h k t u s r same o =
+      if_alike (Same {A = Unit {0}}) (passes limit live) (passes limit' live') (Over StackSpent t) (Went tt (record t { left = n; peak = max t.peak live }) s) (Over StackSpent u) (Went tt (record u { left = n; peak = max u.peak live' }) r) (ap₂ passes h k)
+      (refl, same)
+      (refl, record { events = same.events; rest = same.rest; left = refl; made = same.made }, o)
 
-  -- loops, whose rounds go alike
-  pub loop_follows : (a : Act S Bool) (b : Act R Bool) → Follows copies on Same a b → Follows copies on Same (loop a) (loop b)
-  loop_follows a b h t u s r same o = subst (λ n. Alike copies on (Same {A = Unit {0}}) (loop_within t.left a t s) (loop_within n b u r)) same.left (loop_within_follows t.left a b h t u s r same o)
+  -- a turn for a frame, with the same limit and as many live bytes on both sides
+  pub turn_within_follows : (limit limit' : Option ℕ) (live live' : ℕ) → limit ≡ limit' → live ≡ live' → Follows copies on Same (turn_within limit live) (turn_within limit' live')
+  turn_within_follows limit limit' live live' h k t u s r same o = subst (λ n. Alike copies on (Same {A = Unit {0}}) (turn_within_at t.left limit live t s) (turn_within_at n limit' live' u r)) same.left (turn_within_at_follows t.left limit limit' live live' h k t u s r same o)
 
-  module _ {F A B C D : Type 0} (arg : A → B → Type 0) (val : C → D → Type 0) (bodies : (F → A → Act S C) → F → A → Act S C) (bodies' : (F → B → Act R D) → F → B → Act R D) (h : (call : F → A → Act S C) (call' : F → B → Act R D) → ((f : F) (x : A) (y : B) → arg x y → Follows copies on val (call f x) (call' f y)) → (f : F) (x : A) (y : B) → arg x y → Follows copies on val (bodies call f x) (bodies' call' f y)) where
+  -- a turn of so many, and one for a frame with no limit
+  turn_at_follows_within : (n live : ℕ) (t u : Trace) (s : S) (r : R) → SameSoFar copies t u → on s r → Alike copies on (Same {A = Unit {0}}) (turn_at n t s) (turn_within_at n None live u r)
+  turn_at_follows_within zero live t u s r same o = (refl, same)
+  turn_at_follows_within (suc n) live t u s r same o = (refl, record { events = same.events; rest = same.rest; left = refl; made = same.made }, o)
+
+  -- a turn, and one for a frame with no limit
+  pub turn_follows_within : (live : ℕ) → Follows copies on Same turn (turn_within None live)
+  turn_follows_within live t u s r same o = subst (λ n. Alike copies on (Same {A = Unit {0}}) (turn_at t.left t s) (turn_within_at n None live u r)) same.left (turn_at_follows_within t.left live t u s r same o)
+
+  module _ {A B : Type 0} (val : A → B → Type 0) where
+    -- what loops do after two such rounds
+    pub round_then_follows : (given : Option A) (given' : Option B) (again : Act S A) (again' : Act R B) → BothGive val given given' → Follows copies on val again again' → Follows copies on val (round_then given again) (round_then given' again')
+    round_then_follows None None again again' e h = h
+    round_then_follows (Some x) (Some y) again again' e h = pure_follows val x y e
+    round_then_follows None (Some y) again again' e h = absurd e
+    round_then_follows (Some x) None again again' e h = absurd e
+
+    -- loops with a bound
+    loop_within_follows : (n : ℕ) (a : Act S (Option A)) (b : Act R (Option B)) → Follows copies on (BothGive val) a b → Follows copies on val (loop_within n a) (loop_within n b)
+    loop_within_follows zero a b h = over_follows val TurnsSpent TurnsSpent refl
+    loop_within_follows (suc n) a b h =
+        bind_follows Same val turn turn _ _ turn_follows (λ _ _ _.
+        bind_follows (BothGive val) val a b _ _ h (λ given given' e.
+        round_then_follows given given' (loop_within n a) (loop_within n b) e (loop_within_follows n a b h)))
+
+    -- loops, whose rounds go alike
+    pub loop_follows : (a : Act S (Option A)) (b : Act R (Option B)) → Follows copies on (BothGive val) a b → Follows copies on val (loop a) (loop b)
+    loop_follows a b h t u s r same o = subst (λ n. Alike copies on val (loop_within t.left a t s) (loop_within n b u r)) same.left (loop_within_follows t.left a b h t u s r same o)
+
+-- the two sides may name functions and arguments differently, and how states and values are related may depend on the call, by a w
+module _ {S R : Type 0} (copies : ℕ → ℕ → Type 0) {W F G A B C D : Type 0} (on : W → S → R → Type 0) (starts : W → F → A → G → B → Type 0) (val : W → C → D → Type 0) where
+  module _ (enter : F → A → Act S (Unit {0})) (enter' : G → B → Act R (Unit {0})) (bodies : (F → A → Act S C) → F → A → Act S C) (bodies' : (G → B → Act R D) → G → B → Act R D) (entered : (w : W) (f : F) (x : A) (g : G) (y : B) → starts w f x g y → Follows copies (on w) Same (enter f x) (enter' g y)) (h : (call : F → A → Act S C) (call' : G → B → Act R D) → ((w : W) (f : F) (x : A) (g : G) (y : B) → starts w f x g y → Follows copies (on w) (val w) (call f x) (call' g y)) → (w : W) (f : F) (x : A) (g : G) (y : B) → starts w f x g y → Follows copies (on w) (val w) (bodies call f x) (bodies' call' g y)) where
     -- calls with a bound
-    calls_within_follow : (n : ℕ) (f : F) (x : A) (y : B) → arg x y → Follows copies on val (calls_within n bodies f x) (calls_within n bodies' f y)
-    calls_within_follow zero f x y e = over_follows val _ _ refl
-    calls_within_follow (suc n) f x y e =
-        bind_follows Same val turn turn _ _ turn_follows (λ _ _ _. h (calls_within n bodies) (calls_within n bodies') (calls_within_follow n) f x y e)
+    calls_within_follow : (n : ℕ) (w : W) (f : F) (x : A) (g : G) (y : B) → starts w f x g y → Follows copies (on w) (val w) (calls_within n enter bodies f x) (calls_within n enter' bodies' g y)
+    calls_within_follow zero w f x g y e = over_follows copies (on w) (val w) TurnsSpent TurnsSpent refl
+    calls_within_follow (suc n) w f x g y e =
+        bind_follows copies (on w) Same (val w) (enter f x) (enter' g y) _ _ (entered w f x g y e) (λ _ _ _.
+        h (calls_within n enter bodies) (calls_within n enter' bodies') (calls_within_follow n) w f x g y e)
 
-    -- calls on related values, whose bodies go alike where what calls do goes alike
-    pub calls_follow : (f : F) (x : A) (y : B) → arg x y → Follows copies on val (calls bodies f x) (calls bodies' f y)
-    calls_follow f x y e t u s r same o = subst (λ n. Alike copies on val (calls_within t.left bodies f x t s) (calls_within n bodies' f y u r)) same.left (calls_within_follow t.left f x y e t u s r same o)
+    -- calls, which are entered alike and whose bodies go alike where what calls do goes alike
+    pub calls_follow : (w : W) (f : F) (x : A) (g : G) (y : B) → starts w f x g y → Follows copies (on w) (val w) (calls enter bodies f x) (calls enter' bodies' g y)
+    calls_follow w f x g y e t u s r same o = subst (λ n. Alike copies (on w) (val w) (calls_within t.left enter bodies f x t s) (calls_within n enter' bodies' g y u r)) same.left (calls_within_follow t.left w f x g y e t u s r same o)

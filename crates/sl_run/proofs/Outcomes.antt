@@ -1,7 +1,7 @@
 -- What is known of runs that go alike: the outside sees the same of both, and what goes alike in two passes goes alike.
 use Rattle.std.proofs.Common.{◌≡◌, ℕ, ℤ, List, refl, ◌∙◌}
 use Rattle.sl_run.specs.Run.{Done, Trace, Step, Went, Over, Act, start}
-use Rattle.sl_run.specs.Outcome.{outcome, whole_run}
+use Rattle.sl_run.specs.Outcome.{outcome, trace_of, whole_run}
 use Rattle.sl_run.specs.Alike.{Alike, Follows, Through}
 
 module _ {S R : Type 0} (copies : ℕ → ℕ → Type 0) (on : S → R → Type 0) where
@@ -18,6 +18,20 @@ module _ {S R : Type 0} (copies : ℕ → ℕ → Type 0) (on : S → R → Type
   follows_runs a b s r h o made input turns =
       alike_outcomes (a (start input turns) s) (b (start input turns) r)
       (h (start input turns) (start input turns) s r (record { events = refl; rest = refl; left = refl; made = made }) o)
+
+  module _ {A B : Type 0} (val : A → B → Type 0) where
+    -- of the copies of parts that ended alike the relation holds
+    pub alike_copies : (x : Step S A) (y : Step R B) → Alike copies on val x y → copies (trace_of x).copies (trace_of y).copies
+    alike_copies (Went v t s) (Went w u r) h = h.1.made
+    alike_copies (Over e t) (Over f u) h = h.1.made
+    alike_copies (Went v t s) (Over f u) h = absurd h
+    alike_copies (Over e t) (Went w u r) h = absurd h
+
+    -- of the copies of whole runs that go alike the relation holds, on every input and for every number of turns
+    pub follows_copies : (a : Act S A) (b : Act R B) (s : S) (r : R) → Follows copies on val a b → on s r → copies 0 0 → (input : List ℕ) (turns : ℕ) → copies (trace_of (a (start input turns) s)).copies (trace_of (b (start input turns) r)).copies
+    follows_copies a b s r h o made input turns =
+        alike_copies (a (start input turns) s) (b (start input turns) r)
+        (h (start input turns) (start input turns) s r (record { events = refl; rest = refl; left = refl; made = made }) o)
 
   module _ {A B : Type 0} (val val' : A → B → Type 0) (weaker : (x : A) (y : B) → val x y → val' x y) where
     -- parts that ended alike did so for a relation of values that says less

@@ -1,7 +1,7 @@
 -- What agrees where few turns are left, put together, agrees there too. With the same on both sides: what gives no turn
 -- back, put together, gives none back.
-use Rattle.std.proofs.Common.{◌≡◌, ℕ, zero, suc, ◌≤◌, List, [], ◌∷◌, Option, refl, ap, ap₂, ◌∙◌, subst, Bool, true, false, arith}
-use Rattle.sl_run.specs.Run.{Ending, StackSpent, TurnsSpent, Trace, Step, Went, Over, Act, pure, over, step_then, ◌>>=◌, choose, put, put_all, get, copy, turn, turn_at, passes, keep_within, loop_within, loop, calls_within, calls}
+use Rattle.std.proofs.Common.{◌≡◌, ℕ, zero, suc, ◌≤◌, List, [], ◌∷◌, Option, Some, None, refl, ap, ap₂, ◌∙◌, max, Bool, true, false, if◌then◌else◌, arith}
+use Rattle.sl_run.specs.Run.{Ending, StackSpent, TurnsSpent, Trace, Step, Went, Over, Act, pure, over, step_then, ◌>>=◌, choose, put, put_all, get, copy, turn, turn_at, passes, keep_within, turn_within_at, turn_within, round_then, loop_within, loop, calls_within, calls}
 use Rattle.sl_run.specs.Laws.{LeftAtMost, Agrees, Steady, Respects}
 
 module _ {S : Type 0} where
@@ -46,11 +46,15 @@ module _ {S : Type 0} where
   choose_agrees n true x y x' y' h k = h
   choose_agrees n false x y x' y' h k = k
 
+  -- what a test leads to
+  if_left : {A : Type 0} (n : ℕ) (b : Bool) (x y : Step S A) → LeftAtMost n x → LeftAtMost n y → LeftAtMost n (if b then x else y)
+  if_left n true x y h k = h
+  if_left n false x y h k = k
+
   -- live bytes that are kept within the limit of the stack, where both sides have the same limit and as many live bytes
   pub keep_within_agrees : (n : ℕ) (limit limit' : Option ℕ) (live live' : ℕ) → limit ≡ limit' → live ≡ live' → Agrees {S = S} n (keep_within limit live) (keep_within limit' live')
-  keep_within_agrees n limit limit' live live' e f =
-      subst (λ b. Agrees {S = S} n (keep_within limit live) (choose b (over StackSpent) (pure tt))) (ap₂ passes e f)
-      (choose_agrees n (passes limit live) (over StackSpent) (pure tt) (over StackSpent) (pure tt) (over_agrees n StackSpent) (pure_agrees n tt))
+  keep_within_agrees n limit limit' live live' e f t s le =
+      (ap₂ (λ limit live. keep_within limit live t s) e f, if_left n (passes limit live) (Over StackSpent t) (Went tt (record t { peak = max t.peak live }) s) le le)
 
   -- a turn of so many
   turn_at_agrees : (n m : ℕ) (t : Trace) (s : S) → m ≡ t.left → t.left ≤ n → LeftAtMost n (turn_at m t s)
@@ -61,34 +65,53 @@ module _ {S : Type 0} where
   pub turn_agrees : (n : ℕ) → Agrees {S = S} n turn turn
   turn_agrees n t s le = (refl, turn_at_agrees n t.left t s refl le)
 
+  -- a turn of so many, for a frame
+  turn_within_at_agrees : (n m : ℕ) (limit : Option ℕ) (live : ℕ) (t : Trace) (s : S) → m ≡ t.left → t.left ≤ n → LeftAtMost n (turn_within_at m limit live t s)
+  turn_within_at_agrees n zero limit live t s e le = le
+  turn_within_at_agrees n (suc m) limit live t s e le = if_left n (passes limit live) (Over StackSpent t) (Went tt (record t { left = m; peak = max t.peak live }) s) le (omega arith)
+
+  -- a turn for a frame, where both sides have the same limit and as many live bytes
+  pub turn_within_agrees : (n : ℕ) (limit limit' : Option ℕ) (live live' : ℕ) → limit ≡ limit' → live ≡ live' → Agrees {S = S} n (turn_within limit live) (turn_within limit' live')
+  turn_within_agrees n limit limit' live live' e f t s le =
+      (ap₂ (λ limit live. turn_within limit live t s) e f, turn_within_at_agrees n t.left limit live t s refl le)
+
+  -- a turn for a frame, where the state says how many bytes are live
+  pub turn_within_by_agrees : (n : ℕ) (limit limit' : Option ℕ) (live live' : S → ℕ) → limit ≡ limit' → ((s : S) → live s ≡ live' s) → Agrees {S = S} n (λ t s. turn_within limit (live s) t s) (λ t s. turn_within limit' (live' s) t s)
+  turn_within_by_agrees n limit limit' live live' e f t s le = turn_within_agrees n limit limit' (live s) (live' s) e (f s) t s le
+
+  -- what a loop does after a round
+  pub round_then_agrees : {A : Type 0} (n : ℕ) (given : Option A) (again again' : Act S A) → Agrees n again again' → Agrees n (round_then given again) (round_then given again')
+  round_then_agrees n None again again' h = h
+  round_then_agrees n (Some x) again again' h = pure_agrees n x
+
   -- a loop with a bound
-  loop_within_agrees : (k n : ℕ) (a b : Act S Bool) → Agrees n a b → Agrees n (loop_within k a) (loop_within k b)
+  loop_within_agrees : {A : Type 0} (k n : ℕ) (a b : Act S (Option A)) → Agrees n a b → Agrees n (loop_within k a) (loop_within k b)
   loop_within_agrees zero n a b h = over_agrees n TurnsSpent
   loop_within_agrees (suc k) n a b h =
-      bind_agrees n turn turn (λ _. a >>= (λ again. choose again (loop_within k a) (pure tt))) (λ _. b >>= (λ again. choose again (loop_within k b) (pure tt))) (turn_agrees n) (λ _.
-      bind_agrees n a b (λ again. choose again (loop_within k a) (pure tt)) (λ again. choose again (loop_within k b) (pure tt)) h (λ again.
-      choose_agrees n again (loop_within k a) (pure tt) (loop_within k b) (pure tt) (loop_within_agrees k n a b h) (pure_agrees n tt)))
+      bind_agrees n turn turn (λ _. a >>= (λ given. round_then given (loop_within k a))) (λ _. b >>= (λ given. round_then given (loop_within k b))) (turn_agrees n) (λ _.
+      bind_agrees n a b (λ given. round_then given (loop_within k a)) (λ given. round_then given (loop_within k b)) h (λ given.
+      round_then_agrees n given (loop_within k a) (loop_within k b) (loop_within_agrees k n a b h)))
 
   -- a loop
-  pub loop_agrees : (n : ℕ) (a b : Act S Bool) → Agrees n a b → Agrees n (loop a) (loop b)
+  pub loop_agrees : {A : Type 0} (n : ℕ) (a b : Act S (Option A)) → Agrees n a b → Agrees n (loop a) (loop b)
   loop_agrees n a b h t s le = loop_within_agrees t.left n a b h t s le
 
-module _ {S F A B : Type 0} (n : ℕ) (bodies bodies' : (F → A → Act S B) → F → A → Act S B) (h : (call call' : F → A → Act S B) → ((f : F) (x : A) → Agrees n (call f x) (call' f x)) → (f : F) (x : A) → Agrees n (bodies call f x) (bodies' call' f x)) where
+module _ {S F A B : Type 0} (n : ℕ) (enter : F → A → Act S (Unit {0})) (bodies bodies' : (F → A → Act S B) → F → A → Act S B) (entered : (f : F) (x : A) → Steady (enter f x)) (h : (call call' : F → A → Act S B) → ((f : F) (x : A) → Agrees n (call f x) (call' f x)) → (f : F) (x : A) → Agrees n (bodies call f x) (bodies' call' f x)) where
   -- calls with a bound
-  calls_within_agree : (k : ℕ) (f : F) (x : A) → Agrees n (calls_within k bodies f x) (calls_within k bodies' f x)
+  calls_within_agree : (k : ℕ) (f : F) (x : A) → Agrees n (calls_within k enter bodies f x) (calls_within k enter bodies' f x)
   calls_within_agree zero f x = over_agrees n TurnsSpent
   calls_within_agree (suc k) f x =
-      bind_agrees n turn turn (λ _. bodies (calls_within k bodies) f x) (λ _. bodies' (calls_within k bodies') f x) (turn_agrees n) (λ _. h (calls_within k bodies) (calls_within k bodies') (calls_within_agree k) f x)
+      bind_agrees n (enter f x) (enter f x) (λ _. bodies (calls_within k enter bodies) f x) (λ _. bodies' (calls_within k enter bodies') f x) (entered f x n) (λ _.
+      h (calls_within k enter bodies) (calls_within k enter bodies') (calls_within_agree k) f x)
 
   -- calls, whose bodies agree where what calls do agrees
-  pub calls_agree : (f : F) (x : A) → Agrees n (calls bodies f x) (calls bodies' f x)
+  pub calls_agree : (f : F) (x : A) → Agrees n (calls enter bodies f x) (calls enter bodies' f x)
   calls_agree f x t s le = calls_within_agree t.left f x t s le
 
-module _ {S F A B : Type 0} (bodies : (F → A → Act S B) → F → A → Act S B) (h : Respects bodies) where
-  -- what a body does, where no call gives a turn back
-  pub bodies_steady : (call : F → A → Act S B) → ((f : F) (x : A) → Steady (call f x)) → (f : F) (x : A) → Steady (bodies call f x)
-  bodies_steady call k f x n = h n call call (λ f x. k f x n) f x
+-- what a body does, where no call gives a turn back
+pub bodies_steady : {S F A B : Type 0} (bodies : (F → A → Act S B) → F → A → Act S B) → Respects bodies → (call : F → A → Act S B) → ((f : F) (x : A) → Steady (call f x)) → (f : F) (x : A) → Steady (bodies call f x)
+bodies_steady bodies h call k f x n = h n call call (λ f x. k f x n) f x
 
-  -- a call
-  pub calls_steady : (f : F) (x : A) → Steady (calls bodies f x)
-  calls_steady f x n = calls_agree n bodies bodies (h n) f x
+-- a call
+pub calls_steady : {S F A B : Type 0} (enter : F → A → Act S (Unit {0})) (bodies : (F → A → Act S B) → F → A → Act S B) → ((f : F) (x : A) → Steady (enter f x)) → Respects bodies → (f : F) (x : A) → Steady (calls enter bodies f x)
+calls_steady enter bodies entered h f x n = calls_agree n enter bodies bodies entered (h n) f x

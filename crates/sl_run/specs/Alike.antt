@@ -2,8 +2,8 @@
 use Rattle.std.specs.Prelude.{◌≡◌, ℕ, ◌+◌}
 use Rattle.sl_run.specs.Run.{Trace, Step, Went, Over, Act}
 
--- two runs so far are the same: events, rest of the input and turns left. Of their copies `copies` holds: that the second
--- made no more than the first, say, or nothing at all
+-- Two runs so far are the same: events, rest of the input and turns left. Of their copies `copies` holds: that the second
+-- made no more than the first, say, or nothing at all. Of the bytes that were live nothing is said
 pub record SameSoFar (copies : ℕ → ℕ → Type 0) (t u : Trace) : Type 0 where
   pub events : t.events ≡ u.events
   pub rest : t.rest ≡ u.rest

@@ -18,6 +18,11 @@ abbrev pub outcome : {S : Type 0} → Step S ℤ → Outcome
 outcome (Went value t s) = ended (Done value) t
 outcome (Over e t) = ended e t
 
+-- the run so far of a part that ended so
+abbrev pub trace_of : {S A : Type 0} → Step S A → Trace
+trace_of (Went x t s) = t
+trace_of (Over e t) = t
+
 -- a whole run from a first state, on an input, in at most so many turns
 unfoldable pub whole_run : {S : Type 0} → Act S ℤ → S → List ℕ → ℕ → Outcome
 whole_run program first input turns = outcome (program (start input turns) first)

@@ -1,6 +1,6 @@
 -- Runs: what a program has done to the outside, what is left to it, and how it goes on. The meanings of Slang, of the core
 -- and of C are made of the parts below.
-use Rattle.std.specs.Prelude.{ℕ, ℤ, zero, suc, ◌+◌, List, [], ◌∷◌, ◌++◌, Option, Some, None, Bool, false, nat_lt, if◌then◌else◌}
+use Rattle.std.specs.Prelude.{ℕ, ℤ, zero, suc, ◌+◌, List, [], ◌∷◌, ◌++◌, Option, Some, None, Bool, false, nat_lt, max, if◌then◌else◌}
 
 -- how a run is over
 pub data Ending : Type 0 where
@@ -20,16 +20,18 @@ pub data Event : Type 0 where
   Puts : (byte : ℕ) → Event
   Asks : Event
 
--- a run so far: its events in order, the rest of the input, the turns that are left, and how many copies were made
+-- a run so far: its events in order, the rest of the input, the turns that are left, how many copies were made, and the most
+-- bytes that were live in frames at one time
 pub record Trace : Type 0 where
   pub events : List Event
   pub rest : List ℕ
   pub left : ℕ
   pub copies : ℕ
+  pub peak : ℕ
 
 -- a run before its first event, on this input, with so many turns
 abbrev pub start : List ℕ → ℕ → Trace
-start input turns = record { events = []; rest = input; left = turns; copies = 0 }
+start input turns = record { events = []; rest = input; left = turns; copies = 0; peak = 0 }
 
 -- how a part of a run ends: it went on with a value and a state, or the run is over
 pub data Step (S A : Type 0) : Type 0 where
@@ -108,26 +110,43 @@ abbrev pub passes : Option ℕ → ℕ → Bool
 passes None live = false
 passes (Some limit) live = nat_lt limit live
 
--- so many bytes are live from here on, where that doesn't pass the limit
+-- so many bytes are live, which is tested against the limit and raises the peak
 abbrev pub keep_within : {S : Type 0} → Option ℕ → ℕ → Act S (Unit {0})
-keep_within limit live = choose (passes limit live) (over StackSpent) (pure tt)
+keep_within limit live t s = if passes limit live then Over StackSpent t else Went tt (record t { peak = max t.peak live }) s
 
--- goes round while the body says so, at most so often; each round takes a turn
-abbrev pub loop_within : {S : Type 0} → ℕ → Act S Bool → Act S (Unit {0})
+-- one turn, for a frame with which so many bytes are live. The turn is tested before the limit, and where the limit is passed no
+-- turn is taken
+abbrev pub turn_within_at : {S : Type 0} → ℕ → Option ℕ → ℕ → Act S (Unit {0})
+turn_within_at zero limit live t s = Over TurnsSpent t
+turn_within_at (suc n) limit live t s = if passes limit live then Over StackSpent t else Went tt (record t { left = n; peak = max t.peak live }) s
+
+abbrev pub turn_within : {S : Type 0} → Option ℕ → ℕ → Act S (Unit {0})
+turn_within limit live t s = turn_within_at t.left limit live t s
+
+-- what a loop does after a round that gave this: another round, or it is left with a value
+abbrev pub round_then : {S A : Type 0} → Option A → Act S A → Act S A
+round_then None again = again
+round_then (Some x) again = pure x
+
+-- goes round until the body gives a value, at most so often; each round takes a turn
+abbrev pub loop_within : {S A : Type 0} → ℕ → Act S (Option A) → Act S A
 loop_within zero body = over TurnsSpent
-loop_within (suc n) body = turn >> (body >>= (λ again. choose again (loop_within n body) (pure tt)))
+loop_within (suc n) body = turn >> (body >>= (λ given. round_then given (loop_within n body)))
 
--- goes round while the body says so. Each round takes a turn, so the turns left are bound enough: with no bound in sight a
--- loop is a turn, the body, and the loop again (`loop_is` of proofs/Equations.antt, for a body that is `Steady`)
-abbrev pub loop : {S : Type 0} → Act S Bool → Act S (Unit {0})
+-- goes round until the body gives a value, and is left with it. Each round takes a turn, so the turns left bound the rounds: a
+-- loop is a turn, the body, and where that gives nothing the loop again (`loop_is` of proofs/Equations.antt, for a body that is
+-- `Steady`)
+abbrev pub loop : {S A : Type 0} → Act S (Option A) → Act S A
 loop body t s = loop_within t.left body t s
 
--- a call of f on x, where calls nest at most so deep; each takes a turn. The bodies say what is done, given what calls do
-abbrev pub calls_within : {S F A B : Type 0} → ℕ → ((F → A → Act S B) → F → A → Act S B) → F → A → Act S B
-calls_within zero bodies f x = over TurnsSpent
-calls_within (suc n) bodies f x = turn >> bodies (calls_within n bodies) f x
+-- A call of f on x, where calls nest at most so deep. It is entered, which takes a turn, and then the bodies say what is done,
+-- given what calls do
+abbrev pub calls_within : {S F A B : Type 0} → ℕ → (F → A → Act S (Unit {0})) → ((F → A → Act S B) → F → A → Act S B) → F → A → Act S B
+calls_within zero enter bodies f x = over TurnsSpent
+calls_within (suc n) enter bodies f x = enter f x >> bodies (calls_within n enter bodies) f x
 
--- a call of f on x. Each call takes a turn, so the turns left are bound enough: with no bound in sight a call is a turn and
--- the body (`calls_are` of proofs/Equations.antt, for bodies that are `Respects`)
-abbrev pub calls : {S F A B : Type 0} → ((F → A → Act S B) → F → A → Act S B) → F → A → Act S B
-calls bodies f x t s = calls_within t.left bodies f x t s
+-- A call of f on x. Entering takes a turn, so the turns left bound the depth: a call is entering and the body (`calls_are` of
+-- proofs/Equations.antt, where entering `TakesTurn` and the bodies are `Respects`). `enter` is `turn` where frames have no
+-- bytes, and `turn_within` where they do
+abbrev pub calls : {S F A B : Type 0} → (F → A → Act S (Unit {0})) → ((F → A → Act S B) → F → A → Act S B) → F → A → Act S B
+calls enter bodies f x t s = calls_within t.left enter bodies f x t s
