@@ -1,4 +1,4 @@
--- What a turn, a loop and a call are, with no bound in sight.
+-- What a turn, a loop and a call are, with no bound in them.
 use Rattle.std.proofs.Common.{◌≡◌, ℕ, zero, suc, ◌+◌, ◌-◌, ◌≤◌, max, refl, sym, ap, ◌∙◌, Option, Bool, true, false, if◌then◌else◌, arith}
 use Rattle.sl_run.specs.Run.{TurnsSpent, StackSpent, Trace, Step, Went, Over, Act, step_then, ◌>>=◌, ◌>>◌, turn, turn_at, passes, turn_within_at, turn_within, round_then, loop_within, loop, calls_within, calls}
 use Rattle.sl_run.specs.Laws.{LeftAtMost, Agrees, Steady, TakesTurnAt, TakesTurn, Respects}

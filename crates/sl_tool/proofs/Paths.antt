@@ -114,24 +114,29 @@ module _ (words : List (List ℕ)) (told : Option Contents) (faults faults' call
       let ends = tell_ends Usage status usage_line note note' tells in
       let e = answer_usage words files input none in
       let unread = no_reading words none in
-      let did = λ (s : Status) (is : s ≡ Usage) (put : Put usage_line note note' (Ok tt)). did_reject files input Usage s usage_line is_told is_left e is still put in
-      (files, input, is_told, is_left,
-       keeps words files input before after status
-       (λ calm. let whole = tell_calm Usage status usage_line note note' tells calm.note in inl (did status whole.1 whole.0))
-       (finished_told files input Usage status usage_line (did Usage refl) tells)
-       (by_end (λ s. Cause words files input before after s) Usage status ends unread inr)
-       (subst (λ meant. Settles before after meant status) (sym (ap (λ answer. answer.status) e))
-        (by_end (λ s. Settles before after Usage s) Usage status ends (inl (inl refl)) inr))
-       (hides_note status folder sink (note_told Usage status ends))
-       (grows (omega arith) (omega arith) (tell_grows Usage status usage_line note note' tells))
-       (stands_still files input is_left still)
-       (by_end (λ s. Printed (answer_of words files input) before after s) Usage status ends same (λ _. inr same))
-       (noted_told files Usage status usage_line (unread, refl) (λ put. put) tells)
-       (record {
-         once = λ file reads. absurd (unread (Run file) reads);
-         never = λ _ k. record { files = told; faults = folder k; calls = count k } })
-       refl
-       refl)
+      let did = λ (s : Status) (is : s ≡ Usage) (put : Put usage_line note note' (Ok tt)). did_reject files input Usage s usage_line is_told is_left e is still put in (
+        files,
+        input,
+        is_told,
+        is_left,
+        keeps words files input before after status
+            (λ calm. let whole = tell_calm Usage status usage_line note note' tells calm.note in inl (did status whole.1 whole.0))
+            (finished_told files input Usage status usage_line (did Usage refl) tells)
+            (by_end (λ s. Cause words files input before after s) Usage status ends unread inr)
+            (subst (λ meant. Settles before after meant status) (sym (ap (λ answer. answer.status) e))
+            (by_end (λ s. Settles before after Usage s) Usage status ends (inl (inl refl)) inr))
+            (hides_note status folder sink (note_told Usage status ends))
+            (grows (omega arith) (omega arith) (tell_grows Usage status usage_line note note' tells))
+            (stands_still files input is_left still)
+            (by_end (λ s. Printed (answer_of words files input) before after s) Usage status ends same (λ _. inr same))
+            (noted_told files Usage status usage_line (unread, refl) (λ put. put) tells)
+            (record {
+              once = λ file reads. absurd (unread (Run file) reads);
+              never = λ _ k. record { files = told; faults = folder k; calls = count k };
+            })
+            refl
+            refl,
+      )
 
   module _ (file : List ℕ) (run : command_of words ≡ Some (Run file)) (counted : calls' ≡ one_more calls) where
     reads : Reads words (Run file)
@@ -150,9 +155,10 @@ module _ (words : List (List ℕ)) (told : Option Contents) (faults faults' call
     stands_prefix : (files : Contents) (input bytes : List ℕ) (program : Straight) (result : Result (Unit {0}) Failed) → IsTold source.left input → files file ≡ Some bytes → straight_of bytes ≡ Some program → Prints (ended program.texts) out out' result → GoesNoFurther (answer_of words files input) input before after
     stands_prefix files input bytes program result is_left found some prints = record {
       out = each_some out.held _ (λ held e.
-        let prefix = printed_prefix (ended program.texts) out out' held result e prints in
-        (prefix.0, subst (λ whole. IsPrefix prefix.0 whole) (sym (ap (λ answer. answer.out) (answers files input bytes program found some))) prefix.1, prefix.2));
-      taken = takes_nothing files input is_left }
+          let prefix = printed_prefix (ended program.texts) out out' held result e prints in
+          (prefix.0, subst (λ whole. IsPrefix prefix.0 whole) (sym (ap (λ answer. answer.out) (answers files input bytes program found some))) prefix.1, prefix.2));
+      taken = takes_nothing files input is_left;
+    }
 
     -- the program ran to its end
     pub exit_promise : (value : ℕ) → RunsFile told file out out' (Ok value) → HasCause false faults faults' → note' ≡ note → Promise words before after (Exit value)
@@ -168,27 +174,32 @@ module _ (words : List (List ℕ)) (told : Option Contents) (faults faults' call
         let calm : out'.faults ≡ out.faults = printed_calm (ended program.texts) out out' prints in
         let same : note'.faults ≡ note.faults = ap (λ n. n.faults) quiet in
         let did : Did (answer_of words files input) before after (Exit value) =
-          subst (λ answer. Did answer before after (Exit value)) (sym e)
-          (record {
-            same_status = ap Exit is;
-            files = told_is told files is_told;
-            out = each_some out.held _ (λ held g. printed_whole (ended program.texts) out out' held g prints);
-            note = each_some note.held _ (λ held g. ap (λ n. n.held) quiet ∙ (g ∙ ap Some (sym (append-nil held))));
-            rest = told_is source.left input is_left }) in
-        (files, input, is_told, is_left,
-         keeps words files input before after (Exit value)
-         (λ calm. inl did)
-         (λ _. did)
-         (small, (file, bytes, program, reads, found, straight, ap (λ run. run.ending) (run_is program input 999999999) ∙ ap (λ n. Done (pos n)) (sym is)))
-         (subst (λ meant. Settles before after meant (Exit value)) (sym (ap (λ answer. answer.status) e)) (inl (inl (ap Exit is))))
-         (hides_note (Exit value) (folder.stayed refl) calm (λ lt. absurd (omega arith)))
-         (grows folder.no_lower (omega arith) (omega arith))
-         (stands_prefix files input bytes program (Ok tt) is_left found some prints)
-         (subst (λ answer. Printed answer before after (Exit value)) (sym e) prints)
-         quiet
-         asks
-         refl
-         refl)
+        subst (λ answer. Did answer before after (Exit value)) (sym e)
+        (record {
+          same_status = ap Exit is;
+          files = told_is told files is_told;
+          out = each_some out.held _ (λ held g. printed_whole (ended program.texts) out out' held g prints);
+          note = each_some note.held _ (λ held g. ap (λ n. n.held) quiet ∙ (g ∙ ap Some (sym (append-nil held))));
+          rest = told_is source.left input is_left;
+        }) in (
+          files,
+          input,
+          is_told,
+          is_left,
+          keeps words files input before after (Exit value)
+              (λ calm. inl did)
+              (λ _. did)
+              (small, (file, bytes, program, reads, found, straight, ap (λ run. run.ending) (run_is program input 999999999) ∙ ap (λ n. Done (pos n)) (sym is)))
+              (subst (λ meant. Settles before after meant (Exit value)) (sym (ap (λ answer. answer.status) e)) (inl (inl (ap Exit is))))
+              (hides_note (Exit value) (folder.stayed refl) calm (λ lt. absurd (omega arith)))
+              (grows folder.no_lower (omega arith) (omega arith))
+              (stands_prefix files input bytes program (Ok tt) is_left found some prints)
+              (subst (λ answer. Printed answer before after (Exit value)) (sym e) prints)
+              quiet
+              asks
+              refl
+              refl,
+        )
 
     -- `out` failed
     sink_promise : RunsFile told file out out' (Err stop.Sink) → HasCause false faults faults' → Tried output_fault_line note note' → Promise words before after SinkFault
@@ -199,21 +210,25 @@ module _ (words : List (List ℕ)) (told : Option Contents) (faults faults' call
         let found = files_found told file (Some bytes) finds in
         let e = answers files input bytes program found some in
         let failed = printed_rose (ended program.texts) out out' (record {}) prints in
-        let rose : Rose out.faults out'.faults = failed.0 in
-        (files, input, files_told told (Some bytes), is_left,
-         keeps words files input before after SinkFault
-         (λ calm. absurd (calm.out rose))
-         (λ final. absurd final)
-         (inl rose)
-         (subst (λ meant. Settles before after meant SinkFault) (sym (ap (λ answer. answer.status) e)) (inr (inr rose)))
-         (record { folder = λ lt. absurd (let same : faults' ≡ faults = folder.stayed refl in omega arith); input = λ _ lt. absurd (omega arith); out = λ _ _ _. refl; note = λ _ _ _. inl (inl refl) })
-         (grows folder.no_lower failed.1 tried.1.cause.no_lower)
-         (stands_prefix files input bytes program (Err (record {})) is_left found some prints)
-         (subst (λ answer. Printed answer before after SinkFault) (sym e) (inl prints))
-         (inl (rose, tried))
-         asks
-         refl
-         refl)
+        let rose : Rose out.faults out'.faults = failed.0 in (
+          files,
+          input,
+          files_told told (Some bytes),
+          is_left,
+          keeps words files input before after SinkFault
+              (λ calm. absurd (calm.out rose))
+              (λ final. absurd final)
+              (inl rose)
+              (subst (λ meant. Settles before after meant SinkFault) (sym (ap (λ answer. answer.status) e)) (inr (inr rose)))
+              (record { folder = λ lt. absurd (let same : faults' ≡ faults = folder.stayed refl in omega arith); input = λ _ lt. absurd (omega arith); out = λ _ _ _. refl; note = λ _ _ _. inl (inl refl) })
+              (grows folder.no_lower failed.1 tried.1.cause.no_lower)
+              (stands_prefix files input bytes program (Err (record {})) is_left found some prints)
+              (subst (λ answer. Printed answer before after SinkFault) (sym e) (inl prints))
+              (inl (rose, tried))
+              asks
+              refl
+              refl,
+        )
 
     -- memory ran out before anything was put
     memory_promise : out' ≡ out → HasCause false faults faults' → Tried no_memory_line note note' → Promise words before after Memory
@@ -221,21 +236,25 @@ module _ (words : List (List ℕ)) (told : Option Contents) (faults faults' call
         let files = files_of told None in
         let input = input_of source.left in
         let is_left = input_told source.left in
-        let sink : out'.faults ≡ out.faults = ap (λ s. s.faults) same in
-        (files, input, files_told told None, is_left,
-         keeps words files input before after Memory
-         (λ calm. inr refl)
-         (λ final. absurd final)
-         tt
-         (inl (inr refl))
-         (hides_note Memory (folder.stayed refl) sink (λ lt. inl (inr refl)))
-         (grows folder.no_lower (omega arith) tried.1.cause.no_lower)
-         (stands_still files input is_left (ap (λ s. s.held) same))
-         ([], prefix_none (answer_of words files input).out, same)
-         tried
-         asks
-         refl
-         refl)
+        let sink : out'.faults ≡ out.faults = ap (λ s. s.faults) same in (
+          files,
+          input,
+          files_told told None,
+          is_left,
+          keeps words files input before after Memory
+              (λ calm. inr refl)
+              (λ final. absurd final)
+              tt
+              (inl (inr refl))
+              (hides_note Memory (folder.stayed refl) sink (λ lt. inl (inr refl)))
+              (grows folder.no_lower (omega arith) tried.1.cause.no_lower)
+              (stands_still files input is_left (ap (λ s. s.held) same))
+              ([], prefix_none (answer_of words files input).out, same)
+              tried
+              asks
+              refl
+              refl,
+        )
 
     -- the folder failed: that excuses whatever would have been answered
     folder_promise : out' ≡ out → HasCause true faults faults' → Tried folder_fault_line note note' → Promise words before after FolderFault
@@ -244,21 +263,25 @@ module _ (words : List (List ℕ)) (told : Option Contents) (faults faults' call
         let input = input_of source.left in
         let is_left = input_told source.left in
         let sink : out'.faults ≡ out.faults = ap (λ s. s.faults) same in
-        let rose : Rose faults faults' = folder.rose refl in
-        (files, input, files_told told None, is_left,
-         keeps words files input before after FolderFault
-         (λ calm. absurd (calm.folder rose))
-         (λ final. absurd final)
-         rose
-         (inr (excused files input rose (files file) refl))
-         (record { folder = λ _. refl; input = λ calm _. absurd (calm rose); out = λ calm _ _. absurd (calm rose); note = λ calm _ _. absurd (calm rose) })
-         (grows folder.no_lower (omega arith) tried.1.cause.no_lower)
-         (stands_still files input is_left (ap (λ s. s.held) same))
-         same
-         tried
-         asks
-         refl
-         refl)
+        let rose : Rose faults faults' = folder.rose refl in (
+          files,
+          input,
+          files_told told None,
+          is_left,
+          keeps words files input before after FolderFault
+              (λ calm. absurd (calm.folder rose))
+              (λ final. absurd final)
+              rose
+              (inr (excused files input rose (files file) refl))
+              (record { folder = λ _. refl; input = λ calm _. absurd (calm rose); out = λ calm _ _. absurd (calm rose); note = λ calm _ _. absurd (calm rose) })
+              (grows folder.no_lower (omega arith) tried.1.cause.no_lower)
+              (stands_still files input is_left (ap (λ s. s.held) same))
+              same
+              tried
+              asks
+              refl
+              refl,
+        )
       where
         excused_program : (files : Contents) (input : List ℕ) → Rose faults faults' → (bytes : List ℕ) → files file ≡ Some bytes → (found : Option Straight) → straight_of bytes ≡ found → Excused before after (answer_of words files input).status
         excused_program files input rose bytes there None e = subst (λ answer. Excused before after answer.status) (sym (answer_not_built words files input file bytes run there e)) rose
@@ -278,21 +301,25 @@ module _ (words : List (List ℕ)) (told : Option Contents) (faults faults' call
         let found = files_found told file (Some bytes) finds in
         let e = answer_not_built words files input file bytes run found none in
         let still : out'.held ≡ out.held = ap (λ s. s.held) same in
-        let sink : out'.faults ≡ out.faults = ap (λ s. s.faults) same in
-        (files, input, is_told, is_left,
-         keeps words files input before after NotBuilt
-         (λ calm. inl (did_reject files input NotBuilt NotBuilt not_built_line is_told is_left e refl still (try_calm not_built_line note note' tried calm.note)))
-         (λ final. absurd final)
-         (file, bytes, reads, found, λ program straight. let some : straight_of bytes ≡ Some program = straight_exactly bytes program straight in cc)
-         (subst (λ meant. Settles before after meant NotBuilt) (sym (ap (λ answer. answer.status) e)) (inl (inl refl)))
-         (hides_note NotBuilt (folder.stayed refl) sink (λ lt. inr refl))
-         (grows folder.no_lower (omega arith) tried.1.cause.no_lower)
-         (stands_still files input is_left still)
-         same
-         tried
-         asks
-         refl
-         refl)
+        let sink : out'.faults ≡ out.faults = ap (λ s. s.faults) same in (
+          files,
+          input,
+          is_told,
+          is_left,
+          keeps words files input before after NotBuilt
+              (λ calm. inl (did_reject files input NotBuilt NotBuilt not_built_line is_told is_left e refl still (try_calm not_built_line note note' tried calm.note)))
+              (λ final. absurd final)
+              (file, bytes, reads, found, λ program straight. let some : straight_of bytes ≡ Some program = straight_exactly bytes program straight in cc)
+              (subst (λ meant. Settles before after meant NotBuilt) (sym (ap (λ answer. answer.status) e)) (inl (inl refl)))
+              (hides_note NotBuilt (folder.stayed refl) sink (λ lt. inr refl))
+              (grows folder.no_lower (omega arith) tried.1.cause.no_lower)
+              (stands_still files input is_left still)
+              same
+              tried
+              asks
+              refl
+              refl,
+        )
 
     -- the file isn't there
     no_file_promise : (status : Status) → Finds told file None → out' ≡ out → HasCause false faults faults' → Tells (no_file_line file) NoFile note note' status → Promise words before after status
@@ -308,22 +335,26 @@ module _ (words : List (List ℕ)) (told : Option Contents) (faults faults' call
         let still : out'.held ≡ out.held = ap (λ s. s.held) same in
         let sink : out'.faults ≡ out.faults = ap (λ s. s.faults) same in
         let is_line : IsLineOf words files NoFile line = (file, reads, found, refl) in
-        let did = λ (s : Status) (is : s ≡ NoFile) (put : Put line note note' (Ok tt)). did_reject files input NoFile s line is_told is_left e is still put in
-        (files, input, is_told, is_left,
-         keeps words files input before after status
-         (λ calm. let whole = tell_calm NoFile status line note note' tells calm.note in inl (did status whole.1 whole.0))
-         (finished_told files input NoFile status line (did NoFile refl) tells)
-         (by_end (λ s. Cause words files input before after s) NoFile status ends (file, reads, found) inr)
-         (subst (λ meant. Settles before after meant status) (sym (ap (λ answer. answer.status) e))
-          (by_end (λ s. Settles before after NoFile s) NoFile status ends (inl (inl refl)) (λ rose. inr (inr rose))))
-         (hides_note status (folder.stayed refl) sink (note_told NoFile status ends))
-         (grows folder.no_lower (omega arith) (tell_grows NoFile status line note note' tells))
-         (stands_still files input is_left still)
-         (by_end (λ s. Printed (answer_of words files input) before after s) NoFile status ends same (λ _. inr same))
-         (noted_told files NoFile status line is_line (λ put. (line, is_line, put)) tells)
-         asks
-         refl
-         refl)
+        let did = λ (s : Status) (is : s ≡ NoFile) (put : Put line note note' (Ok tt)). did_reject files input NoFile s line is_told is_left e is still put in (
+          files,
+          input,
+          is_told,
+          is_left,
+          keeps words files input before after status
+              (λ calm. let whole = tell_calm NoFile status line note note' tells calm.note in inl (did status whole.1 whole.0))
+              (finished_told files input NoFile status line (did NoFile refl) tells)
+              (by_end (λ s. Cause words files input before after s) NoFile status ends (file, reads, found) inr)
+              (subst (λ meant. Settles before after meant status) (sym (ap (λ answer. answer.status) e))
+              (by_end (λ s. Settles before after NoFile s) NoFile status ends (inl (inl refl)) (λ rose. inr (inr rose))))
+              (hides_note status (folder.stayed refl) sink (note_told NoFile status ends))
+              (grows folder.no_lower (omega arith) (tell_grows NoFile status line note note' tells))
+              (stands_still files input is_left still)
+              (by_end (λ s. Printed (answer_of words files input) before after s) NoFile status ends same (λ _. inr same))
+              (noted_told files NoFile status line is_line (λ put. (line, is_line, put)) tells)
+              asks
+              refl
+              refl,
+        )
 
     -- the same of a status that is this one
     at_status : (meant status : Status) → status ≡ meant → Promise words before after meant → Promise words before after status

@@ -45,7 +45,7 @@ pub prints_up_to : {X : Type 0} (f : X → List ℕ) (xs : List X) (i : ℕ) (x 
 prints_up_to f xs i x d a b c failed within is h k =
     prints_same a c ((flat_map f (take i xs) ++ f x) ++ flat_map f (drop (suc i) xs)) (flat_map f xs) (Err failed)
     (append_assoc (flat_map f (take i xs)) (f x) (flat_map f (drop (suc i) xs))
-     ∙ (sym (flat_map-append f (take i xs) (x ∷ drop (suc i) xs)) ∙ ap (flat_map f) (cut_at xs i x d within is)))
+    ∙ (sym (flat_map-append f (take i xs) (x ∷ drop (suc i) xs)) ∙ ap (flat_map f) (cut_at xs i x d within is)))
     (prints_stop (flat_map f (take i xs) ++ f x) (flat_map f (drop (suc i) xs)) a c failed (prints_then (flat_map f (take i xs)) (f x) a b c (Err failed) h k))
 
 -- and where the one at i was printed too

@@ -23,7 +23,8 @@ use words::file_to_run;
 
 /// Does what the words after the program's name ask for: `run FILE` reads the file from `folder`, and puts on `out` what its
 /// program prints, a byte at a time. `note` gets one line where the status isn't the exit value of a run; docs/command-line.md
-/// has the statuses, their causes and their lines. No file is changed, and `input` isn't read.
+/// has the statuses, their causes and their lines. The folder is asked for FILE once, and for nothing else. No file is changed, and
+/// `input` isn't read.
 ///
 /// The one clause, `Promise`, has a field for each promise.
 pub fn slang<F: Folder, S: Source, K: Sink, N: Sink>(
@@ -36,15 +37,15 @@ pub fn slang<F: Folder, S: Source, K: Sink, N: Sink>(
 ) -> Status
     ensures { Promise (map string_bytes words.now.items)
         (outside
-            (folder_state (F.files folder.old) (F.faults folder.old) (F.calls folder.old))
-            (source_state (S.left input.old) (S.faults input.old) (S.calls input.old))
-            (sink_state (K.held out.old) (K.faults out.old) (K.calls out.old))
-            (sink_state (N.held note.old) (N.faults note.old) (N.calls note.old)))
+        (folder_state (F.files folder.old) (F.faults folder.old) (F.calls folder.old))
+        (source_state (S.left input.old) (S.faults input.old) (S.calls input.old))
+        (sink_state (K.held out.old) (K.faults out.old) (K.calls out.old))
+        (sink_state (N.held note.old) (N.faults note.old) (N.calls note.old)))
         (outside
-            (folder_state (F.files folder.new) (F.faults folder.new) (F.calls folder.new))
-            (source_state (S.left input.new) (S.faults input.new) (S.calls input.new))
-            (sink_state (K.held out.new) (K.faults out.new) (K.calls out.new))
-            (sink_state (N.held note.new) (N.faults note.new) (N.calls note.new)))
+        (folder_state (F.files folder.new) (F.faults folder.new) (F.calls folder.new))
+        (source_state (S.left input.new) (S.faults input.new) (S.calls input.new))
+        (sink_state (K.held out.new) (K.faults out.new) (K.calls out.new))
+        (sink_state (N.held note.new) (N.faults note.new) (N.calls note.new)))
         result }
 {
     let Some(file) = file_to_run(words.as_slice()) else {

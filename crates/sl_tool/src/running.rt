@@ -1,4 +1,4 @@
-// `run FILE`: a straight file is read and walked.
+// `run FILE`: a straight file is read, and what its program prints is put.
 ghost use Rattle.std.specs.Prelude.{◌≡◌, ◌++◌, ◌∷◌, []};
 ghost use Rattle.sl_outside.specs.Counts.{HasCause, one_more};
 ghost use Rattle.sl_outside.specs.Sink.{Prints, sink_state};

@@ -10,8 +10,8 @@ const HELLO: &[u8] =
 
 const USAGE: &[u8] = b"usage: check, emit, run, step, stack or sample\n";
 
-/// A number of a put that fails: there are fewer.
-const NONE: u64 = 1000;
+/// No put fails.
+const NONE: &[u64] = &[];
 
 /// A status, and what is on `out` and on `note`.
 type Told = (u8, &'static [u8], &'static [u8]);
@@ -34,18 +34,16 @@ fn folder_of(alloc: Global) -> Result<SureFolder, Fail> {
     Ok(SureFolder::new(files))
 }
 
-fn sink_of(alloc: Global, failing: u64) -> Result<MemorySink, Fail> {
-    let mut numbers = Row::new(alloc);
-    numbers.push(failing)?;
-    Ok(MemorySink::new(alloc, 100, numbers)?)
+fn sink_of(alloc: Global, failing: &[u64]) -> Result<MemorySink, Fail> {
+    Ok(MemorySink::new(alloc, 100, Row::from_slice(alloc, failing)?)?)
 }
 
-/// Calls the tool with these words, where the put on `out` and on `note` with these numbers fail.
+/// Calls the tool with these words, where the puts on `out` and on `note` with these numbers fail.
 fn ends_so(
     alloc: Global,
     words: &[&str],
-    failing_out: u64,
-    failing_note: u64,
+    failing_out: &[u64],
+    failing_note: &[u64],
     told: Told,
 ) -> Result<bool, Fail> {
     let words = words_of(alloc, words)?;
@@ -62,10 +60,19 @@ fn runs_print_byte_by_byte(rt: HostRuntime) -> Result<(), Fail> {
     let alloc = rt.alloc();
     let words = ["run", "hello"];
     assert!(rt; ends_so(alloc, &words, NONE, NONE, (63, b"hello\n\n", b""))?);
-    assert!(rt; ends_so(alloc, &words, 1, NONE, (75, b"", b"output fault\n"))?);
-    assert!(rt; ends_so(alloc, &words, 6, NONE, (75, b"hello", b"output fault\n"))?);
-    assert!(rt; ends_so(alloc, &words, 7, 1, (75, b"hello\n", b""))?);
-    assert!(rt; ends_so(alloc, &words, 8, NONE, (63, b"hello\n\n", b""))?);
+    assert!(rt; ends_so(alloc, &words, &[1], NONE, (75, b"", b"output fault\n"))?);
+    assert!(rt; ends_so(alloc, &words, &[6], NONE, (75, b"hello", b"output fault\n"))?);
+    assert!(rt; ends_so(alloc, &words, &[7], &[1], (75, b"hello\n", b""))?);
+    assert!(rt;
+        ends_so(
+            alloc,
+            &words,
+            &[7],
+            &[2],
+            (75, b"hello\n", b"output fault\n")
+        )?
+    );
+    assert!(rt; ends_so(alloc, &words, &[8], &[1], (63, b"hello\n\n", b""))?);
     Ok(())
 }
 
@@ -74,10 +81,13 @@ fn refusals_tell_their_line(rt: HostRuntime) -> Result<(), Fail> {
     let alloc = rt.alloc();
     let other = ["run", "other"];
     assert!(rt; ends_so(alloc, &other, NONE, NONE, (77, b"", b"not built\n"))?);
-    assert!(rt; ends_so(alloc, &other, NONE, 1, (77, b"", b""))?);
+    assert!(rt; ends_so(alloc, &other, NONE, &[1], (77, b"", b""))?);
+    assert!(rt; ends_so(alloc, &other, NONE, &[2], (77, b"", b"not built\n"))?);
     let missing = ["run", "missing"];
     assert!(rt; ends_so(alloc, &missing, NONE, NONE, (72, b"", b"no file missing\n"))?);
-    assert!(rt; ends_so(alloc, &missing, NONE, 1, (75, b"", b"output fault\n"))?);
+    assert!(rt; ends_so(alloc, &missing, NONE, &[1], (75, b"", b"output fault\n"))?);
+    assert!(rt; ends_so(alloc, &missing, NONE, &[2], (72, b"", b"no file missing\n"))?);
+    assert!(rt; ends_so(alloc, &missing, NONE, &[1, 2], (75, b"", b""))?);
     Ok(())
 }
 
@@ -95,7 +105,9 @@ fn other_words_have_no_reading(rt: HostRuntime) -> Result<(), Fail> {
     ];
     for words in lines {
         assert!(rt; ends_so(alloc, words, NONE, NONE, (64, b"", USAGE))?);
-        assert!(rt; ends_so(alloc, words, NONE, 1, (75, b"", b"output fault\n"))?);
+        assert!(rt; ends_so(alloc, words, NONE, &[1], (75, b"", b"output fault\n"))?);
+        assert!(rt; ends_so(alloc, words, NONE, &[2], (64, b"", USAGE))?);
+        assert!(rt; ends_so(alloc, words, NONE, &[1, 2], (75, b"", b""))?);
     }
     Ok(())
 }
