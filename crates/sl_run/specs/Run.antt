@@ -1,5 +1,5 @@
--- Runs: what a program has done to the outside, what is left to it, and how it goes on. The meanings of Slang, of the core
--- and of C are made of the parts below.
+-- Runs: what a program has done to the outside, what is left to it, and how it goes on. Every meaning, that of the
+-- source and that of the C, is made of the parts below.
 use Rattle.std.specs.Prelude.{ℕ, ℤ, zero, suc, ◌+◌, List, [], ◌∷◌, ◌++◌, Option, Some, None, Bool, false, nat_lt, max, if◌then◌else◌}
 
 -- how a run is over

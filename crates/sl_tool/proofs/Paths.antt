@@ -128,7 +128,7 @@ module _ (words : List (List ℕ)) (told : Option Contents) (faults faults' call
             (hides_note status folder sink (note_told Usage status ends))
             (grows (omega arith) (omega arith) (tell_grows Usage status usage_line note note' tells))
             (stands_still files input is_left still)
-            (by_end (λ s. Printed (answer_of words files input) before after s) Usage status ends same (λ _. inr same))
+            (by_end (λ s. Printed (answer_of words files input) before after s) Usage status ends same (λ rose. inr (rose, same)))
             (noted_told files Usage status usage_line (unread, refl) (λ put. put) tells)
             (record {
               once = λ file reads. absurd (unread (Run file) reads);
@@ -349,7 +349,7 @@ module _ (words : List (List ℕ)) (told : Option Contents) (faults faults' call
               (hides_note status (folder.stayed refl) sink (note_told NoFile status ends))
               (grows folder.no_lower (omega arith) (tell_grows NoFile status line note note' tells))
               (stands_still files input is_left still)
-              (by_end (λ s. Printed (answer_of words files input) before after s) NoFile status ends same (λ _. inr same))
+              (by_end (λ s. Printed (answer_of words files input) before after s) NoFile status ends same (λ rose. inr (rose, same)))
               (noted_told files NoFile status line is_line (λ put. (line, is_line, put)) tells)
               asks
               refl

@@ -1,5 +1,5 @@
 -- Bytes that are put one after another, each by a call of its own.
-use Rattle.std.proofs.Common.{◌≡◌, ℕ, suc, ◌+◌, ◌<◌, ◌≤◌, List, [], ◌∷◌, ◌++◌, length, take, drop, get_or, Option, Some, None, refl, sym, ap, ◌∙◌, subst, append_assoc, append-nil, inl, inr, arith}
+use Rattle.std.proofs.Common.{◌≡◌, ℕ, suc, ◌+◌, ◌<◌, ◌≤◌, List, [], ◌∷◌, ◌++◌, length, take, drop, get_or, Some, refl, sym, ap, ◌∙◌, subst, append_assoc, append-nil, inl, inr}
 use Rattle.std.specs.Prelude.{Result, Ok, Err, IsErr}
 use Rattle.std.specs.List.{flat_map}
 use Rattle.std.proofs.Math.Seq.{drop-cons}
@@ -7,7 +7,7 @@ use Rattle.std.proofs.lemmas.List.{take-append-drop, take_more}
 use Rattle.std.proofs.lemmas.Grind.{flat_map-append}
 use Rattle.sl_outside.specs.declared.source.Failed.{Failed}
 use Rattle.sl_outside.specs.Counts.{Rose}
-use Rattle.sl_outside.specs.Sink.{PutGives, IsPrefix, SinkState, Put, Prints}
+use Rattle.sl_outside.specs.Sink.{IsPrefix, SinkState, Put, Prints}
 use Rattle.sl_tool.proofs.Noting.{gave, gave_prefix}
 
 -- one byte

@@ -1,5 +1,5 @@
 -- The outside of a call: a folder, an input and two outputs, as the call found them or left them.
-use Rattle.std.specs.Prelude.{◌≡◌, ℕ, List, Option, Some, None}
+use Rattle.std.specs.Prelude.{◌≡◌, Option, Some, None}
 use Rattle.sl_outside.specs.Counts.{Rose}
 use Rattle.sl_outside.specs.Folder.{FolderState}
 use Rattle.sl_outside.specs.Source.{SourceState}

@@ -1,7 +1,7 @@
 -- What a call of `slang` promises. `before` is the outside as the call found it, and `after` as it left it. `files` is what the
 -- folder tells that it holds, and `input` what the input tells that it has left. Of a folder or an input that tells nothing, the
 -- promise is that it holds of some `files` and some `input`. Of an output that tells nothing of its bytes, nothing is said but
--- its count of faults.
+-- its counts of faults and of calls.
 use Rattle.std.specs.Prelude.{◌≡◌, ◌⊎◌, ℕ, pos, ◌<◌, ◌≤◌, List, ◌++◌, Some, None, IfSome, Ok, Err}
 use Rattle.sl_outside.specs.Counts.{one_more}
 use Rattle.sl_outside.specs.Folder.{Contents}
@@ -18,7 +18,7 @@ use Rattle.sl_tool.specs.Texts.{usage_line, no_file_line, folder_fault_line, out
 use Rattle.sl_tool.specs.Answer.{Answer, answer_of, default_turns, run_status}
 use Rattle.sl_tool.specs.Outside.{Outside, IsTold, FolderRose, InputRose, OutRose, NoteRose, NothingFailed}
 
--- it is this status, or memory ran out
+-- it is this status, or `Memory`, which may come at any time
 abbrev pub IsUnlessMemory : Status → Status → Type 0
 IsUnlessMemory status meant = (status ≡ meant) ⊎ (status ≡ Memory)
 
@@ -32,11 +32,11 @@ pub record Did (answer : Answer) (before after : Outside) (status : Status) : Ty
   pub note : IfSome before.note.held (λ held. after.note.held ≡ Some (held ++ answer.note))
   pub rest : IfSome before.input.left (λ _. after.input.left ≡ Some answer.rest)
 
--- where nothing failed, the call did what `answer_of` says, or memory ran out
+-- where nothing failed, the call did what `answer_of` says, or its status is `Memory`
 abbrev pub Complete : List (List ℕ) → Contents → List ℕ → Outside → Outside → Status → Type 0
 Complete words files input before after status = NothingFailed before after → Did (answer_of words files input) before after status ⊎ (status ≡ Memory)
 
--- a status that says that the command came to its end, and its line was put where it has one
+-- 0 to 63, 64 and 72: the statuses whose line, if they have one, was put whole
 abbrev pub IsFinal : Status → Type 0
 IsFinal (Exit value) = Unit {0}
 IsFinal Usage = Unit {0}
@@ -55,7 +55,7 @@ pub record RanAs (run : Outcome) (before after : Outside) (status : Status) : Ty
   pub printed_bytes : IfSome before.out.held (λ held. after.out.held ≡ Some (held ++ printed run.events))
   pub rest : IfSome before.input.left (λ _. after.input.left ≡ Some run.rest)
 
--- `run FILE` on a straight file prints, reads and ends as the program does
+-- where nothing failed, `run FILE` on a straight file prints, reads and ends as the program does, or its status is `Memory`
 abbrev pub Runs : List (List ℕ) → Contents → List ℕ → Outside → Outside → Status → Type 0
 Runs words files input before after status =
     (file bytes : List ℕ) (program : Straight) → Reads words (Run file) → files file ≡ Some bytes → IsStraight bytes program →
@@ -105,8 +105,8 @@ pub record Comes (words : List (List ℕ)) (files : Contents) (input : List ℕ)
 
 -- Faults --------------------------------------------------------------------------------------------------------------
 
--- Where a count rose, no other status hides it: first the folder's, then the input's, then those of the outputs. A fault of
--- `note` alone leaves the statuses whose own line it refused: that of a source that isn't built yet, and want of memory
+-- Where a count rose, the status shows it: first the folder's, then the input's, then those of the outputs. A fault of `note`
+-- alone leaves the statuses whose own line it refused: that of a source that isn't built yet, and `Memory`
 pub record HidesNoFault (before after : Outside) (status : Status) : Type 0 where
   pub folder : before.folder.faults < after.folder.faults → status ≡ FolderFault
   pub input : ¬ FolderRose before after → before.input.faults < after.input.faults → status ≡ InputFault
@@ -131,7 +131,7 @@ pub record GoesNoFurther (answer : Answer) (input : List ℕ) (before after : Ou
 -- How `out` got it, by the status: byte by byte, each by a call of its own, up to the first that failed
 abbrev pub Printed : Answer → Outside → Outside → Status → Type 0
 Printed answer before after (Exit value) = Prints answer.out before.out after.out (Ok tt)
-Printed answer before after SinkFault = Prints answer.out before.out after.out (Err (record {})) ⊎ (after.out ≡ before.out)
+Printed answer before after SinkFault = Prints answer.out before.out after.out (Err (record {})) ⊎ (NoteRose before after × (after.out ≡ before.out))
 Printed answer before after Memory = (prefix : List ℕ) × IsPrefix prefix answer.out × Prints prefix before.out after.out (Ok tt)
 Printed answer before after Usage = after.out ≡ before.out
 Printed answer before after NoFile = after.out ≡ before.out
@@ -139,12 +139,12 @@ Printed answer before after FolderFault = after.out ≡ before.out
 Printed answer before after NotBuilt = after.out ≡ before.out
 Printed answer before after other = ⊥
 
--- the folder was asked for a file once where the words ask for one, and else not at all
+-- the folder was called once where the words ask for a file, and else not at all
 pub record AsksOnce (words : List (List ℕ)) (before after : Outside) : Type 0 where
   pub once : (file : List ℕ) → Reads words (Run file) → after.folder.calls ≡ one_more before.folder.calls
   pub never : HasNoReading words → after.folder ≡ before.folder
 
--- the line of a status that a refusal of the line turns into that of an output's fault
+-- the lines whose refusal changes the status to `SinkFault`: those of 64 and 72
 abbrev pub IsLineOf : List (List ℕ) → Contents → Status → List ℕ → Type 0
 IsLineOf words files Usage line = HasNoReading words × (line ≡ usage_line)
 IsLineOf words files NoFile line = (file : List ℕ) × Reads words (Run file) × (files file ≡ None) × (line ≡ no_file_line file)
@@ -172,15 +172,15 @@ Noted words files before after other = ⊥
 
 -- the promise over these files and this input
 pub record Keeps (words : List (List ℕ)) (files : Contents) (input : List ℕ) (before after : Outside) (status : Status) : Type 0 where
-  -- where nothing failed, and wherever the command came to its end, the call did what `answer_of` says
+  -- where nothing failed, and with 0 to 63, 64 and 72 in any case, the call did what `answer_of` says, or its status is `Memory`
   pub complete : Complete words files input before after status
   pub finished : Finished words files input before after status
-  -- a straight file's run is that of its program
+  -- where nothing failed, a straight file's run is that of its program, or the status is `Memory`
   pub run : Runs words files input before after status
   -- each status comes only with its cause, and where its cause stands
   pub cause : Cause words files input before after status
   pub comes : Comes words files input before after status
-  -- no status hides a fault
+  -- the status shows a fault
   pub hides_no_fault : HidesNoFault before after status
   pub counts : CountsGrow before after
   -- what stands after the call, whatever its status, and by which calls it came there

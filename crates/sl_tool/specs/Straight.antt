@@ -10,7 +10,7 @@
 --     }
 --   }
 --
--- NAME is a capital, then letters and digits, and no reserved name. TEXT has at most 100 printable bytes of ASCII, without the
+-- NAME is an ASCII capital, then ASCII letters or digits, and no reserved name. TEXT has at most 100 printable bytes of ASCII, without the
 -- quotation mark and the backslash. VALUE is a number from 0 to 63.
 use Rattle.std.specs.Prelude.{◌≡◌, ◌≢◌, ◌⊎◌, ℕ, ◌≤◌, List, [], ◌∷◌, ◌++◌, length, map, All, Contains, codes}
 use Rattle.std.specs.List.{flat_map}
@@ -25,7 +25,7 @@ IsCapital byte = (65 ≤ byte) × (byte ≤ 90)
 abbrev pub IsLetterOrDigit : ℕ → Type 0
 IsLetterOrDigit byte = IsCapital byte ⊎ ((97 ≤ byte) × (byte ≤ 122)) ⊎ ((48 ≤ byte) × (byte ≤ 57))
 
--- the names that Slang has for itself, as far as they begin with a capital: no declaration may take them
+-- the names that the subset reserves, of those that begin with a capital: no declaration may take them
 abbrev pub reserved_names : List (List ℕ)
 reserved_names =
     codes "B" ∷ codes "Z" ∷ codes "C" ∷ codes "String"

@@ -16,7 +16,7 @@ IsFileWord (byte ∷ bytes) = byte ≢ 45
 abbrev pub Reads : List (List ℕ) → Command → Type 0
 Reads words (Run file) = IsFileWord file × (words ≡ codes "run" ∷ file ∷ [])
 
--- the words ask for nothing
+-- the words are those of no command
 abbrev pub HasNoReading : List (List ℕ) → Type 0
 HasNoReading words = (command : Command) → ¬ Reads words command
 

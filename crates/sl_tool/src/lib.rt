@@ -22,8 +22,8 @@ use telling::{tell_stop, tell_usage};
 use words::file_to_run;
 
 /// Does what the words after the program's name ask for: `run FILE` reads the file from `folder`, and puts on `out` what its
-/// program prints, a byte at a time. `note` gets one line where the status isn't the exit value of a run; docs/command-line.md
-/// has the statuses, their causes and their lines. The folder is asked for FILE once, and for nothing else. No file is changed, and
+/// program prints, a byte at a time. Where the status isn't the exit value of a run, its line is put on `note`; docs/command-line.md
+/// has the statuses, their causes and their lines. The folder is called once, to read FILE. No file is changed, and
 /// `input` isn't read.
 ///
 /// The one clause, `Promise`, has a field for each promise.

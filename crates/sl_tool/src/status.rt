@@ -4,7 +4,7 @@ ghost use Rattle.sl_tool.specs.Answer.{code_of};
 /// How a call of the tool ended.
 #[derive(Clone, Copy, Debug, PartialEq, Eq)]
 pub enum Status {
-    /// A run ended with this exit value, from 0 to 63. 0 for every other command that did its work.
+    /// A run ended with this exit value, from 0 to 63.
     Exit(u8),
     /// The words have no reading.
     Usage,

@@ -1,5 +1,4 @@
 use Rattle.std.proofs.Common.{◌∷◌, []}
-use Rattle.std.specs.Prelude.{Err, Ok}
 use Rattle.sl_outside.specs.Sink.{SinkState, sink_state}
 use Rattle.sl_tool.proofs.Printing.{prints_then, prints_one, prints_stop, prints_failure}
 use Rattle.sl_tool.proofs.running.print_text.Goals as goal

@@ -1,4 +1,4 @@
-use Rattle.std.proofs.Common.{inl, inr}
+use Rattle.std.proofs.Common.{inr}
 use Rattle.sl_outside.specs.Sink.{sink_state}
 use Rattle.sl_tool.proofs.telling.put_line.Goals as goal
 
