@@ -10,7 +10,7 @@ mod source;
 
 pub use adapters::{FolderOnDisk, SinkOnOutput, SourceOnInput};
 pub use folder::{Folder, Refused};
-pub use memory::{MemorySink, SureFolder, SureSource};
+pub use memory::{MemoryFolder, MemorySink, MemorySource, SureFolder, SureSource};
 pub use sink::Sink;
 pub use source::{Failed, Source};
 

@@ -1,7 +1,8 @@
+mod calls;
 mod folder;
 mod sink;
 mod source;
 
-pub use folder::SureFolder;
+pub use folder::{MemoryFolder, SureFolder};
 pub use sink::MemorySink;
-pub use source::SureSource;
+pub use source::{MemorySource, SureSource};

@@ -48,6 +48,43 @@ fn a_sure_source_ends(rt: HostRuntime) -> Result<(), Fail> {
 }
 
 #[test]
+fn a_memory_source_goes_on_after_a_fault(rt: HostRuntime) -> Result<(), Fail> {
+    let mut failing = Row::new(rt.alloc());
+    failing.push(2)?;
+    let mut source = MemorySource::new(bytes(rt.alloc(), b"xy")?, failing);
+    assert_eq!(rt; source.next()?, Some(b'x'));
+    assert!(rt; source.next().is_err(), "its number is a failing one");
+    assert_eq!(rt; source.next()?, Some(b'y'));
+    assert_eq!(rt; source.next()?, None);
+    Ok(())
+}
+
+#[test]
+fn a_memory_folder_goes_on_after_a_fault(rt: HostRuntime) -> Result<(), Fail> {
+    let alloc = rt.alloc();
+    let mut files = Row::new(alloc);
+    files.push((Text::from_str(alloc, "a")?, bytes(alloc, b"one")?))?;
+    let mut failing = Row::new(alloc);
+    failing.push(2)?;
+    failing.push(4)?;
+    let mut folder = MemoryFolder::new(files, failing);
+    folder.write(alloc, "b", b"two")?;
+    assert!(rt;
+        matches!(folder.write(alloc, "a", b"three"), Err(Refused::Failed)),
+        "its number is a failing one"
+    );
+    let a = folder.read(alloc, "a")?.ok_or("no a")?;
+    assert_eq!(rt; a.as_slice(), b"one".as_slice());
+    assert!(rt;
+        matches!(folder.read(alloc, "b"), Err(Refused::Failed)),
+        "its number is a failing one"
+    );
+    let b = folder.read(alloc, "b")?.ok_or("no b")?;
+    assert_eq!(rt; b.as_slice(), b"two".as_slice());
+    Ok(())
+}
+
+#[test]
 fn the_disk_keeps_a_file(rt: HostRuntime) -> Result<(), Fail> {
     let alloc = rt.alloc();
     let process = process::id(rt.process());

@@ -3,6 +3,7 @@ ghost use Rattle.sl_outside.specs.Counts.{HasCause, one_more};
 ghost use Rattle.sl_outside.specs.Sink.{PutGives};
 ghost use Rattle.sl_outside.specs.Numbered.{PutAnswers};
 
+use super::calls::Calls;
 use crate::{Failed, Sink};
 use sl_text::{Mem, Row};
 use std::alloc::Global;
@@ -14,9 +15,7 @@ use std::marker::Model;
 pub struct MemorySink {
     bytes: Vec<u8>,
     room: u32,
-    failing: Row<u64>,
-    calls: u64,
-    faults: u64,
+    calls: Calls,
 }
 
 impl Model for MemorySink {
@@ -25,7 +24,7 @@ impl Model for MemorySink {
 
     ghost Value = { MemorySinkState };
 
-    ghost view = { λ s. record { held = s.bytes.items; room = s.room; failing = s.failing; calls = s.calls; faults = s.faults } };
+    ghost view = { λ s. record { held = s.bytes.items; room = s.room; failing = s.calls.failing; calls = s.calls.count; faults = s.calls.faults } };
 
     ghost invariant = { λ s. (s.room ≤ vec_capacity s.bytes) × (length s.bytes.items ≤ s.room) };
 }
@@ -39,9 +38,7 @@ impl MemorySink {
         Ok(MemorySink {
             bytes,
             room,
-            failing,
-            calls: 0,
-            faults: 0,
+            calls: Calls::new(failing),
         })
     }
 
@@ -68,10 +65,12 @@ impl Sink for MemorySink {
         ensures counted { self.new.calls ≡ one_more self.old.calls }
         ensures answers { PutAnswers self.old self.new bytes.now result }
     {
-        self.calls = self.calls.saturating_add(1);
+        if self.calls.next_fails() {
+            return Err(Failed);
+        }
         let room = self.room as usize - self.bytes.len();
-        if self.failing.as_slice().contains(&self.calls) || room < bytes.len() {
-            self.faults = self.faults.saturating_add(1);
+        if room < bytes.len() {
+            self.calls.fault();
             return Err(Failed);
         }
         match self.bytes.extend_from_slice(bytes) {

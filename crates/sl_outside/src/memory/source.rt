@@ -1,5 +1,9 @@
-ghost use Rattle.std.specs.Prelude.{◌≡◌};
+ghost use Rattle.std.specs.Prelude.{◌≡◌, Some, is_err};
+ghost use Rattle.sl_outside.specs.Counts.{HasCause, one_more};
+ghost use Rattle.sl_outside.specs.Source.{NextGives};
+ghost use Rattle.sl_outside.specs.Numbered.{NextAnswers};
 
+use super::calls::Calls;
 use crate::{Failed, Source};
 use sl_text::Row;
 use std::marker::Model;
@@ -53,5 +57,55 @@ impl Source for SureSource {
         let next = self.bytes.as_slice()[self.at];
         self.at += 1;
         Ok(Some(next))
+    }
+}
+
+/// Bytes in memory as a source. Its calls are numbered from 1, and it fails exactly at the numbers that it was given; then it
+/// takes no byte.
+#[derive(Drop)]
+pub struct MemorySource {
+    source: SureSource,
+    calls: Calls,
+}
+
+impl Model for MemorySource {
+    ghost use Rattle.sl_outside.specs.Numbered.{MemorySourceState};
+
+    ghost Value = { MemorySourceState };
+
+    ghost view = { λ s. record { left = s.source.left; failing = s.calls.failing; calls = s.calls.count; faults = s.calls.faults } };
+}
+
+impl MemorySource {
+    /// A source with these bytes to come, that fails at the calls with these numbers.
+    pub fn new(bytes: Row<u8>, failing: Row<u64>) -> MemorySource
+        ensures { result ≡ record { left = bytes; failing = failing; calls = 0; faults = 0 } }
+    {
+        MemorySource {
+            source: SureSource::new(bytes),
+            calls: Calls::new(failing),
+        }
+    }
+}
+
+impl Source for MemorySource {
+    ghost use Rattle.std.specs.Prelude.{Some};
+
+    ghost left = { λ s. Some s.left };
+
+    ghost faults = { λ s. s.faults };
+
+    ghost calls = { λ s. s.calls };
+
+    fn next(&mut self) -> Result<Option<u8>, Failed>
+        ensures next { NextGives (Some self.old.left) (Some self.new.left) result }
+        ensures cause { HasCause (is_err result) self.old.faults self.new.faults }
+        ensures counted { self.new.calls ≡ one_more self.old.calls }
+        ensures answers { NextAnswers self.old self.new result }
+    {
+        if self.calls.next_fails() {
+            return Err(Failed);
+        }
+        self.source.next()
     }
 }

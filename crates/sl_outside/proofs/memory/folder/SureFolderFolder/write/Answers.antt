@@ -1,4 +1,3 @@
-use Rattle.std.proofs.Common.{ap, sym}
 use Rattle.sl_outside.proofs.Listed.{writes}
 use Rattle.sl_outside.proofs.memory.folder.SureFolderFolder.write.Goals as goal
 
@@ -6,4 +5,4 @@ pub returns-clause-written : goal.returns-clause-written
 returns-clause-written c =
     rw (← c.self.view_is)
     (writes c.self.inside.files c.write_entry.new.entries c.args.name.now c.args.bytes.now c.write_entry.result
-     c.write_entry.ensures.ok c.write_entry.ensures.err c.write_entry.ensures.refused)
+    c.write_entry.ensures.ok c.write_entry.ensures.err c.write_entry.ensures.refused)
