@@ -1,5 +1,5 @@
--- What the adapters over the system hold: what they stand over, how often it failed, and how often they were called. And what reading a byte and writing
--- bytes whole do to what they stand over.
+-- What the adapters over the system hold: what they stand over, how many of their calls answered a fault, and how often they were
+-- called. And what reading a byte and writing bytes whole do to what they stand over.
 use Rattle.std.specs.Prelude.{ℕ, List, [], ◌∷◌, Option, Some, None, Result, Ok, Err}
 use Rattle.std.specs.Io.KnownBytes.{Keeps, Appends, Consumes, IsAtEnd}
 use Rattle.sl_outside.specs.Sink.{IsPrefix}
@@ -7,27 +7,35 @@ use Rattle.sl_outside.specs.declared.adapters.disk.FolderOnDisk.{FolderOnDisk}
 use Rattle.sl_outside.specs.declared.adapters.streams.SourceOnInput.{SourceOnInput}
 use Rattle.sl_outside.specs.declared.adapters.streams.SinkOnOutput.{SinkOnOutput}
 
+-- the parts of each, under a name of its own: how many calls answered a fault
 abbrev pub disk_faults : {R File Directory : Type 0} → FolderOnDisk R File Directory → ℕ
 disk_faults folder = folder.faults
 
+-- how often it was called
 abbrev pub disk_calls : {R File Directory : Type 0} → FolderOnDisk R File Directory → ℕ
 disk_calls folder = folder.calls
 
+-- what it reads from
 abbrev pub input_reader : {R : Type 0} → SourceOnInput R → R
 input_reader source = source.reader
 
+-- how many calls answered a fault
 abbrev pub input_faults : {R : Type 0} → SourceOnInput R → ℕ
 input_faults source = source.faults
 
+-- how often it was called
 abbrev pub input_calls : {R : Type 0} → SourceOnInput R → ℕ
 input_calls source = source.calls
 
+-- what it writes to
 abbrev pub output_writer : {W : Type 0} → SinkOnOutput W → W
 output_writer sink = sink.writer
 
+-- how many calls answered a fault
 abbrev pub output_faults : {W : Type 0} → SinkOnOutput W → ℕ
 output_faults sink = sink.faults
 
+-- how often it was called
 abbrev pub output_calls : {W : Type 0} → SinkOnOutput W → ℕ
 output_calls sink = sink.calls
 

@@ -1,4 +1,4 @@
--- Contents that are listed.
+-- Contents that are listed, and the forms over memory that never fail.
 use Rattle.std.specs.Prelude.{◌≡◌, ◌<◌, ℕ, List, [], ◌∷◌, ◌++◌, length, slice_set, Option, Some, None, if◌then◌else◌}
 use Rattle.std.specs.Str.{bytes_eq}
 

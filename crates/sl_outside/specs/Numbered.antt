@@ -1,4 +1,4 @@
--- What the calls of the forms over memory answer, to the letter. Calls are numbered from 1, up to 2 ^ 64 - 1, which is the
+-- What each call of the forms over memory that can fail answers, exactly. Calls are numbered from 1, up to 2 ^ 64 - 1, which is the
 -- number of every later call too.
 use Rattle.std.specs.Prelude.{◌≡◌, ℕ, ◌+◌, List, ◌++◌, length, drop, slice_get, Option, Bool, true, false, ◌||◌, nat_lt, ◌==◌, Result, Ok, Err}
 use Rattle.std.specs.List.{list_any}

@@ -44,10 +44,10 @@ pub trait Folder {
     /// What it holds, where it tells that.
     ghost files: { Self → Option Contents };
 
-    /// How often it failed. At 2^64 - 1 the count stands still.
+    /// How many of its calls answered a fault. At 2^64 - 1 the count need not rise.
     ghost faults: { Self → ℕ };
 
-    /// How often it was called, with the same end.
+    /// How often it was called, up to 2^64 - 1.
     ghost calls: { Self → ℕ };
 
     /// The bytes under a name, or None where the name isn't there.

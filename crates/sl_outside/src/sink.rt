@@ -9,13 +9,13 @@ pub trait Sink {
     /// The bytes that it took so far, where it tells them.
     ghost held: { Self → Option (List ℕ) };
 
-    /// How often it failed. At 2^64 - 1 the count stands still.
+    /// How many of its calls answered a fault. At 2^64 - 1 the count need not rise.
     ghost faults: { Self → ℕ };
 
-    /// How often it was called, with the same end.
+    /// How often it was called, up to 2^64 - 1.
     ghost calls: { Self → ℕ };
 
-    /// Takes a piece. Where it fails it took a front of the piece.
+    /// Takes a piece. Where it fails it took a prefix of the piece.
     fn put(&mut self, bytes: &[u8]) -> Result<(), Failed>
         ensures taken { PutGives (held self.old) (held self.new) bytes.now result }
         ensures cause { HasCause (is_err result) (faults self.old) (faults self.new) }

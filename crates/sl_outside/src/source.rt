@@ -14,10 +14,10 @@ pub trait Source {
     /// The bytes that are still to come, where it tells them.
     ghost left: { Self → Option (List ℕ) };
 
-    /// How often it failed. At 2^64 - 1 the count stands still.
+    /// How many of its calls answered a fault. At 2^64 - 1 the count need not rise.
     ghost faults: { Self → ℕ };
 
-    /// How often it was called, with the same end.
+    /// How often it was called, up to 2^64 - 1.
     ghost calls: { Self → ℕ };
 
     /// The next byte, or None at the end. Asked again there, it gives None again.

@@ -1,6 +1,6 @@
 // Calls of the tool over memory: what comes out, put by put.
 use super::*;
-use sl_outside::{MemorySink, SureFolder, SureSource};
+use sl_outside::{MemoryFolder, MemorySink, SureSource};
 use sl_text::{Row, Text};
 use std::alloc::{AllocError, Global};
 use std::test::Fail;
@@ -10,7 +10,7 @@ const HELLO: &[u8] =
 
 const USAGE: &[u8] = b"usage: check, emit, run, step, stack or sample\n";
 
-/// No put fails.
+/// No call fails.
 const NONE: &[u64] = &[];
 
 /// A status, and what is on `out` and on `note`.
@@ -24,33 +24,27 @@ fn words_of(alloc: Global, words: &[&str]) -> Result<Vec<String>, AllocError> {
     Ok(all)
 }
 
-fn folder_of(alloc: Global) -> Result<SureFolder, Fail> {
+fn folder_of(alloc: Global, failing: &[u64]) -> Result<MemoryFolder, Fail> {
     let mut files = Row::new(alloc);
     files.push((
         Text::from_str(alloc, "hello")?,
         Row::from_slice(alloc, HELLO)?,
     ))?;
     files.push((Text::from_str(alloc, "other")?, Row::new(alloc)))?;
-    Ok(SureFolder::new(files))
+    Ok(MemoryFolder::new(files, Row::from_slice(alloc, failing)?))
 }
 
 fn sink_of(alloc: Global, failing: &[u64]) -> Result<MemorySink, Fail> {
     Ok(MemorySink::new(alloc, 100, Row::from_slice(alloc, failing)?)?)
 }
 
-/// Calls the tool with these words, where the puts on `out` and on `note` with these numbers fail.
-fn ends_so(
-    alloc: Global,
-    words: &[&str],
-    failing_out: &[u64],
-    failing_note: &[u64],
-    told: Told,
-) -> Result<bool, Fail> {
+/// Calls the tool with these words, where the calls of the folder, of `out` and of `note` with these numbers fail.
+fn ends_so(alloc: Global, words: &[&str], failing: [&[u64]; 3], told: Told) -> Result<bool, Fail> {
     let words = words_of(alloc, words)?;
-    let mut folder = folder_of(alloc)?;
+    let mut folder = folder_of(alloc, failing[0])?;
     let mut input = SureSource::new(Row::new(alloc));
-    let mut out = sink_of(alloc, failing_out)?;
-    let mut note = sink_of(alloc, failing_note)?;
+    let mut out = sink_of(alloc, failing[1])?;
+    let mut note = sink_of(alloc, failing[2])?;
     let status = slang(alloc, &words, &mut folder, &mut input, &mut out, &mut note);
     Ok(status.code() == told.0 && out.bytes() == told.1 && note.bytes() == told.2)
 }
@@ -59,20 +53,33 @@ fn ends_so(
 fn runs_print_byte_by_byte(rt: HostRuntime) -> Result<(), Fail> {
     let alloc = rt.alloc();
     let words = ["run", "hello"];
-    assert!(rt; ends_so(alloc, &words, NONE, NONE, (63, b"hello\n\n", b""))?);
-    assert!(rt; ends_so(alloc, &words, &[1], NONE, (75, b"", b"output fault\n"))?);
-    assert!(rt; ends_so(alloc, &words, &[6], NONE, (75, b"hello", b"output fault\n"))?);
-    assert!(rt; ends_so(alloc, &words, &[7], &[1], (75, b"hello\n", b""))?);
+    assert!(rt; ends_so(alloc, &words, [NONE, NONE, NONE], (63, b"hello\n\n", b""))?);
     assert!(rt;
         ends_so(
             alloc,
             &words,
-            &[7],
-            &[2],
+            [NONE, &[1], NONE],
+            (75, b"", b"output fault\n")
+        )?
+    );
+    assert!(rt;
+        ends_so(
+            alloc,
+            &words,
+            [NONE, &[6], NONE],
+            (75, b"hello", b"output fault\n")
+        )?
+    );
+    assert!(rt; ends_so(alloc, &words, [NONE, &[7], &[1]], (75, b"hello\n", b""))?);
+    assert!(rt;
+        ends_so(
+            alloc,
+            &words,
+            [NONE, &[7], &[2]],
             (75, b"hello\n", b"output fault\n")
         )?
     );
-    assert!(rt; ends_so(alloc, &words, &[8], &[1], (63, b"hello\n\n", b""))?);
+    assert!(rt; ends_so(alloc, &words, [NONE, &[8], &[1]], (63, b"hello\n\n", b""))?);
     Ok(())
 }
 
@@ -80,14 +87,55 @@ fn runs_print_byte_by_byte(rt: HostRuntime) -> Result<(), Fail> {
 fn refusals_tell_their_line(rt: HostRuntime) -> Result<(), Fail> {
     let alloc = rt.alloc();
     let other = ["run", "other"];
-    assert!(rt; ends_so(alloc, &other, NONE, NONE, (77, b"", b"not built\n"))?);
-    assert!(rt; ends_so(alloc, &other, NONE, &[1], (77, b"", b""))?);
-    assert!(rt; ends_so(alloc, &other, NONE, &[2], (77, b"", b"not built\n"))?);
+    assert!(rt; ends_so(alloc, &other, [NONE, NONE, NONE], (77, b"", b"not built\n"))?);
+    assert!(rt; ends_so(alloc, &other, [NONE, NONE, &[1]], (77, b"", b""))?);
+    assert!(rt; ends_so(alloc, &other, [NONE, NONE, &[2]], (77, b"", b"not built\n"))?);
     let missing = ["run", "missing"];
-    assert!(rt; ends_so(alloc, &missing, NONE, NONE, (72, b"", b"no file missing\n"))?);
-    assert!(rt; ends_so(alloc, &missing, NONE, &[1], (75, b"", b"output fault\n"))?);
-    assert!(rt; ends_so(alloc, &missing, NONE, &[2], (72, b"", b"no file missing\n"))?);
-    assert!(rt; ends_so(alloc, &missing, NONE, &[1, 2], (75, b"", b""))?);
+    assert!(rt;
+        ends_so(
+            alloc,
+            &missing,
+            [NONE, NONE, NONE],
+            (72, b"", b"no file missing\n")
+        )?
+    );
+    assert!(rt;
+        ends_so(
+            alloc,
+            &missing,
+            [NONE, NONE, &[1]],
+            (75, b"", b"output fault\n")
+        )?
+    );
+    assert!(rt;
+        ends_so(
+            alloc,
+            &missing,
+            [NONE, NONE, &[2]],
+            (72, b"", b"no file missing\n")
+        )?
+    );
+    assert!(rt; ends_so(alloc, &missing, [NONE, NONE, &[1, 2]], (75, b"", b""))?);
+    Ok(())
+}
+
+#[test]
+fn a_fault_of_the_folder_shows(rt: HostRuntime) -> Result<(), Fail> {
+    let alloc = rt.alloc();
+    for words in [["run", "hello"], ["run", "other"], ["run", "missing"]] {
+        assert!(rt;
+            ends_so(
+                alloc,
+                &words,
+                [&[1], NONE, NONE],
+                (73, b"", b"folder fault\n")
+            )?
+        );
+        assert!(rt; ends_so(alloc, &words, [&[1], NONE, &[1]], (73, b"", b""))?);
+    }
+    let hello = ["run", "hello"];
+    assert!(rt; ends_so(alloc, &hello, [&[2], NONE, NONE], (63, b"hello\n\n", b""))?);
+    assert!(rt; ends_so(alloc, &["run"], [&[1], NONE, NONE], (64, b"", USAGE))?);
     Ok(())
 }
 
@@ -104,10 +152,17 @@ fn other_words_have_no_reading(rt: HostRuntime) -> Result<(), Fail> {
         &["run", "hello", "other"],
     ];
     for words in lines {
-        assert!(rt; ends_so(alloc, words, NONE, NONE, (64, b"", USAGE))?);
-        assert!(rt; ends_so(alloc, words, NONE, &[1], (75, b"", b"output fault\n"))?);
-        assert!(rt; ends_so(alloc, words, NONE, &[2], (64, b"", USAGE))?);
-        assert!(rt; ends_so(alloc, words, NONE, &[1, 2], (75, b"", b""))?);
+        assert!(rt; ends_so(alloc, words, [NONE, NONE, NONE], (64, b"", USAGE))?);
+        assert!(rt;
+            ends_so(
+                alloc,
+                words,
+                [NONE, NONE, &[1]],
+                (75, b"", b"output fault\n")
+            )?
+        );
+        assert!(rt; ends_so(alloc, words, [NONE, NONE, &[2]], (64, b"", USAGE))?);
+        assert!(rt; ends_so(alloc, words, [NONE, NONE, &[1, 2]], (75, b"", b""))?);
     }
     Ok(())
 }

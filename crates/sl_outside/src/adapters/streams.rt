@@ -112,7 +112,7 @@ impl<W: Write + Drop> Sink for SinkOnOutput<W> {
     }
 }
 
-/// Writes all the bytes, in as many writes as it takes. Where it fails it wrote a front of them.
+/// Writes all the bytes, in as many writes as it takes. Where it fails it wrote a prefix of them.
 pub fn write_whole<W: Write>(writer: &mut W, bytes: &[u8]) -> io::Result<()>
     ensures { WholeWritten (W.contents writer.old) (W.contents writer.new) bytes.now result }
 {

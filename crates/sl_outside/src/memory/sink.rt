@@ -75,6 +75,7 @@ impl Sink for MemorySink {
         }
         match self.bytes.extend_from_slice(bytes) {
             Ok(()) => Ok(()),
+            // never: `new` took the room
             Err(_) => Err(Failed),
         }
     }
