@@ -1,4 +1,4 @@
-ghost use Rattle.std.specs.Prelude.{◌≡◌, List, ℕ, Option};
+ghost use Rattle.std.specs.Prelude.{◌≡◌, ℕ, Option};
 ghost use Rattle.sl_outside.specs.Counts.{HasCause, one_more};
 ghost use Rattle.sl_outside.specs.Folder.{Contents, ReadGives, WriteGives, is_fault};
 

@@ -1,6 +1,6 @@
 // Straight files: the sources that can be run today. specs/Straight.antt says which files are straight.
 
-ghost use Rattle.std.specs.Prelude.{◌≡◌, ◌<◌, [], ◌∷◌, ◌++◌, length, map, Some, None, IfOk, IfNone, IfSome, Contains, IsTrue, ◌↔◌, option_copied};
+ghost use Rattle.std.specs.Prelude.{◌≡◌, ◌<◌, [], ◌∷◌, length, Some, None, IfOk, IfNone, IfSome, Contains, IsTrue, ◌↔◌, option_copied};
 ghost use Rattle.sl_tool.specs.Straight.{reserved_names, IsAppName, IsTextByte, IsText, IsStraight};
 ghost use Rattle.sl_tool.specs.StraightReading.{lines_in, between, is_app_name, is_reserved, name_in, is_text, is_text_byte, text_in, value_of, value_in, is_end, head_of, body_of, straight_of};
 
