@@ -1,0 +1,14 @@
+pub mod Alone
+pub mod Steady
+pub mod Resuming
+pub mod Lists
+pub mod Inlined
+pub mod Placed
+pub mod Called
+pub mod Small
+pub mod Refused
+pub mod Kept
+pub mod Examples
+pub mod Spelling
+pub mod Places
+pub mod Forms

@@ -1,0 +1,12 @@
+//! The C that slangc writes, as trees: their types, and in `specs/` what their tokens are, which bytes are their text, which
+//! rules they keep, and what they do. docs/c-subset.md tells the same in prose.
+#![tactic(auto)]
+
+mod fault;
+mod tree;
+
+pub use fault::{CFault, NotC};
+pub use tree::{CExpr, CFile, CFun, CMember, CStmt, CStruct, CType, CVar};
+
+#[cfg(test)]
+mod tests;

@@ -1,0 +1,72 @@
+use sl_text::{Row, Text};
+
+/// A C file: its structs, global variables, prototypes and functions, in order. A prototype is a function without variables
+/// and statements.
+#[derive(Drop)]
+pub struct CFile {
+    pub structs: Row<CStruct>,
+    pub globals: Row<CVar>,
+    pub protos: Row<CFun>,
+    pub functions: Row<CFun>,
+}
+
+/// `struct NAME { .. };`
+#[derive(Drop)]
+pub struct CStruct {
+    pub name: Text,
+    pub members: Row<CMember>,
+}
+
+/// A member of a struct. With a count it is an array of so many elements of its kind. Where `choice` isn't empty it is a union
+/// of these, its kind is Void and it has no count.
+#[derive(Drop)]
+pub struct CMember {
+    pub name: Text,
+    pub kind: CType,
+    pub count: Option<u32>,
+    pub choice: Row<CVar>,
+}
+
+/// A variable, a parameter, or a member of a union: its name and its kind.
+#[derive(Drop)]
+pub struct CVar {
+    pub name: Text,
+    pub kind: CType,
+}
+
+/// A type. `Int` is an integer type of `stdint.h`: whether it is signed, and its width in bits, which is 8, 16, 32 or 64.
+#[derive(Drop)]
+pub enum CType {
+    Int(bool, u8),
+    Void,
+}
+
+/// A function, and the line of its first token, counted from 1.
+#[derive(Drop)]
+pub struct CFun {
+    pub name: Text,
+    pub inline: bool,
+    pub result: CType,
+    pub params: Row<CVar>,
+    pub vars: Row<CVar>,
+    pub body: Row<CStmt>,
+    pub line: u64,
+}
+
+/// A statement.
+#[derive(Drop)]
+pub enum CStmt {
+    /// `NAME();`
+    Call(Text),
+    /// `return EXPR;`, or `return;`
+    Return(Option<CExpr>),
+    /// `sl_put(EXPR);`
+    Put(CExpr),
+}
+
+/// An expression.
+#[derive(Drop)]
+pub enum CExpr {
+    /// `INT64_C(NUMBER)` where it is signed, and else `UINT64_C(NUMBER)`
+    Const(bool, u64),
+}
