@@ -1,0 +1,148 @@
+-- Where a token ends: before a byte that no token has behind its first, and behind a bracket or a point that stands alone.
+use Rattle.std.proofs.Common.{◌≡◌, ◌≢◌, ℕ, List, [], ◌∷◌, ◌++◌, Bool, true, false, not, ◌||◌, refl, sym, ◌∙◌, subst, inl, inr, arith, Contains, codes, bytes_eq}
+use Rattle.std.specs.Prelude.{◌==◌}
+use Rattle.std.specs.Char.{is_ascii_alphanumeric}
+use Rattle.std.specs.List.{list_all}
+use Rattle.std.proofs.lemmas.Bool.{and_parts, or_parts, not-true, both_ways}
+use Rattle.std.proofs.lemmas.Bool.Decides.{nat_tests}
+use Rattle.std.proofs.lemmas.List.Elements.{All-contains, All-head, All-tail, All-weaker}
+use Rattle.std.proofs.lemmas.List.Folds.{list_all-append}
+use Rattle.std.proofs.lemmas.List.Sums.{AllPass-from_list_all, list_all-from_AllPass}
+use Rattle.std.proofs.lemmas.Map.Views.{Contains-from_any}
+use Rattle.std.proofs.lemmas.Slice.Eq.{bytes_eq-Decides}
+use Rattle.c_tree.specs.Words.{IsIdentifierByte, IsDigit, IsIdentifier, IsNumber, IsToken, marks}
+use Rattle.c_tree.specs.Text.{IsLongest}
+use Rattle.c_write.specs.Layout.{is_one_of, opening}
+
+-- what each of some spellings passes, each that they contain passes
+contained_passes : (test : List ℕ → Bool) (spellings : List (List ℕ)) (spelling : List ℕ) → list_all test spellings ≡ true → Contains spellings spelling → test spelling ≡ true
+contained_passes test spellings spelling all contains =
+    All-contains (λ s. test s ≡ true) spellings spelling (AllPass-from_list_all test spellings all) contains
+
+-- and each that is one of them
+pub one_passes : (test : List ℕ → Bool) (spellings : List (List ℕ)) (spelling : List ℕ) → list_all test spellings ≡ true → is_one_of spellings spelling ≡ true → test spelling ≡ true
+one_passes test spellings spelling all one =
+    contained_passes test spellings spelling all
+    (Contains-from_any {eq = λ a b. bytes_eq b a} (λ a b e. sym ((bytes_eq-Decides b a).0 e)) spelling spellings one)
+
+-- whether a token may have this byte behind its first: a letter, a digit, `_`, `+`, `<`, `>` or `=`
+abbrev inside : ℕ → Bool
+inside byte = is_ascii_alphanumeric byte || (byte == 95) || (byte == 43) || (byte == 60) || (byte == 62) || (byte == 61)
+
+-- whether there is a first byte, and a token may have each that follows
+abbrev rest_inside : List ℕ → Bool
+rest_inside [] = false
+rest_inside (first ∷ rest) = list_all inside rest
+
+-- the bytes of identifiers and numbers are such
+identifier_byte_inside : (byte : ℕ) → IsIdentifierByte byte → inside byte ≡ true
+identifier_byte_inside byte is = grind (arith, nat_tests)
+
+digit_inside : (byte : ℕ) → IsDigit byte → inside byte ≡ true
+digit_inside byte is = grind (arith, nat_tests)
+
+-- so an identifier, a number and each token has only such behind its first byte
+identifier_inside : (spelling : List ℕ) → IsIdentifier spelling → rest_inside spelling ≡ true
+identifier_inside [] is = absurd is.begins
+identifier_inside (first ∷ rest) is =
+    list_all-from_AllPass inside rest
+    (All-weaker IsIdentifierByte (λ b. inside b ≡ true) identifier_byte_inside rest (All-tail IsIdentifierByte first rest is.bytes))
+
+number_inside : (spelling : List ℕ) → IsNumber spelling → rest_inside spelling ≡ true
+number_inside [] is = absurd (is.some refl)
+number_inside (first ∷ rest) is =
+    list_all-from_AllPass inside rest (All-weaker IsDigit (λ b. inside b ≡ true) digit_inside rest (All-tail IsDigit first rest is.digits))
+
+token_inside : (spelling : List ℕ) → IsToken spelling → rest_inside spelling ≡ true
+token_inside spelling (inl is) = identifier_inside spelling is
+token_inside spelling (inr (inl is)) = number_inside spelling is
+token_inside spelling (inr (inr is)) = contained_passes rest_inside marks spelling refl is
+
+-- whether each token ends before these bytes: no token has the first of them behind its own first, and it is no `*`
+abbrev pub ends_token : List ℕ → Bool
+ends_token [] = false
+ends_token (byte ∷ bytes) = not (inside byte || (byte == 42))
+
+-- more bytes may follow
+pub ends_token-append : (bytes more : List ℕ) → ends_token bytes ≡ true → ends_token (bytes ++ more) ≡ true
+ends_token-append [] more e = cc
+ends_token-append (byte ∷ bytes) more e = e
+
+-- a token doesn't go on with such bytes
+no_longer : (spelling more rest : List ℕ) → ends_token (more ++ rest) ≡ true → more ≢ [] → IsToken spelling → ¬ IsToken (spelling ++ more)
+no_longer spelling [] rest ends some short long = some refl
+no_longer [] (byte ∷ more) rest ends some short long = let e = token_inside [] short in cc
+no_longer (first ∷ spelling) (byte ∷ more) rest ends some short long =
+    let all = sym (list_all-append inside spelling (byte ∷ more)) ∙ token_inside (first ∷ spelling ++ byte ∷ more) long in
+    let here = and_parts (inside byte) (list_all inside more) (and_parts (list_all inside spelling) (list_all inside (byte ∷ more)) all).1 in
+    let out = or_parts (inside byte) (byte == 42) (not-true (inside byte || (byte == 42)) ends)
+    in both_ways (inside byte) out.0 here.0
+
+-- nor do they begin a comment with it
+no_comment_before : (spelling behind rest : List ℕ) → ends_token behind ≡ true → IsToken spelling → spelling ++ behind ≢ codes "/*" ++ rest
+no_comment_before [] behind rest ends is e = let none = token_inside [] is in cc
+no_comment_before (first ∷ []) behind rest ends is e =
+    let same : behind ≡ 42 ∷ rest = cc in
+    let not_so : false ≡ true = subst (λ b. ends_token b ≡ true) same ends
+    in cc
+no_comment_before (first ∷ second ∷ more) behind rest ends is e =
+    let same : second ≡ 42 = cc in
+    let here = and_parts (inside second) (list_all inside more) (token_inside (first ∷ second ∷ more) is) in
+    let not_so : false ≡ true = subst (λ b. inside b ≡ true) same here.0
+    in cc
+
+-- so a token is the longest with which the bytes begin
+pub longest_before : (spelling behind : List ℕ) → IsToken spelling → ends_token behind ≡ true → IsLongest spelling behind
+longest_before spelling behind is ends = record {
+  token = is;
+  longest = λ more rest e some. no_longer spelling more rest (subst (λ b. ends_token b ≡ true) e ends) some is;
+  no_comment = λ rest. no_comment_before spelling behind rest ends is;
+}
+
+-- whether this is `(`, `[` or `.`
+abbrev opens : ℕ → Bool
+opens byte = (byte == 40) || (byte == 91) || (byte == 46)
+
+-- whether bytes are one of these alone, and whether they are one of these with more behind
+abbrev opens_alone : List ℕ → Bool
+opens_alone [] = false
+opens_alone (byte ∷ []) = opens byte
+opens_alone (byte ∷ next ∷ more) = false
+
+abbrev opens_longer : List ℕ → Bool
+opens_longer [] = false
+opens_longer (byte ∷ []) = false
+opens_longer (byte ∷ next ∷ more) = opens byte
+
+-- the bytes of identifiers and numbers are others
+identifier_byte_other : (byte : ℕ) → IsIdentifierByte byte → opens byte ≡ false
+identifier_byte_other byte is = grind (arith, nat_tests)
+
+digit_other : (byte : ℕ) → IsDigit byte → opens byte ≡ false
+digit_other byte is = grind (arith, nat_tests)
+
+-- so no token is one of these with more behind
+token_alone : (first next : ℕ) (more : List ℕ) → IsToken (first ∷ next ∷ more) → opens first ≡ false
+token_alone first next more (inl is) = identifier_byte_other first (All-head IsIdentifierByte first (next ∷ more) is.bytes)
+token_alone first next more (inr (inl is)) = digit_other first (All-head IsDigit first (next ∷ more) is.digits)
+token_alone first next more (inr (inr is)) = not-true (opens first) (contained_passes (λ s. not (opens_longer s)) marks (first ∷ next ∷ more) refl is)
+
+-- and each of these alone is the longest token with which bytes begin, whatever follows
+opening_longest : (spelling behind : List ℕ) → opens_alone spelling ≡ true → IsToken spelling → IsLongest spelling behind
+opening_longest [] behind alone is = cc
+opening_longest (first ∷ next ∷ more) behind alone is = cc
+opening_longest (first ∷ []) behind alone is = record { token = is; longest = longest; no_comment = no_comment }
+  where
+    longest : (more rest : List ℕ) → behind ≡ more ++ rest → more ≢ [] → ¬ IsToken (first ∷ more)
+    longest [] rest e some long = some refl
+    longest (next ∷ more) rest e some long = both_ways (opens first) (token_alone first next more long) alone
+
+    no_comment : (rest : List ℕ) → first ∷ behind ≢ codes "/*" ++ rest
+    no_comment rest e =
+        let same : first ≡ 47 = cc in
+        let not_so : false ≡ true = subst (λ b. opens b ≡ true) same alone
+        in cc
+
+-- each spelling that is one of the tokens that open
+pub longest_opening : (spelling behind : List ℕ) → is_one_of opening spelling ≡ true → IsToken spelling → IsLongest spelling behind
+longest_opening spelling behind one is = opening_longest spelling behind (one_passes opens_alone opening spelling refl one) is

@@ -1,0 +1,121 @@
+-- The blanks before a token are spaces and line feeds, and each token ends where they begin.
+use Rattle.std.proofs.Common.{◌≡◌, ◌≢◌, ◌⊎◌, ℕ, ◌-◌, ◌*◌, List, [], ◌∷◌, ◌++◌, map, replicate, Bool, true, false, refl, ap, inl, inr, ⊎_elim, All, codes, bytes_eq}
+use Rattle.std.specs.Prelude.{◌==◌, if◌then◌else◌}
+use Rattle.std.specs.List.{flat_map, list_all}
+use Rattle.std.proofs.lemmas.Bool.{cond_both, cases_Bool, both_ways, or_left}
+use Rattle.std.proofs.lemmas.List.Elements.{All-nil, All-cons, All-map, All-weaker, All-replicate}
+use Rattle.c_tree.specs.Flat.{Lexeme}
+use Rattle.c_tree.specs.Words.{IsToken}
+use Rattle.c_tree.specs.Text.{IsBlank, AreBlanks, IsLongest}
+use Rattle.c_write.specs.declared.layout.After.{After}
+use Rattle.c_write.specs.declared.layout.After.TheVariants.{Nothing, Line, Block, Bracket, Keyword, Other}
+use Rattle.c_write.specs.declared.layout.Place.{Place}
+use Rattle.c_write.specs.Layout.{is_one_of, opening, closing, applying, keywords, after_token, next_depth, moved, new_line, space_before, gap_after, laid}
+use Rattle.c_write.proofs.Ends.{one_passes, ends_token, ends_token-append, longest_before, longest_opening}
+
+-- a space or a line feed
+abbrev pub IsSpace : ℕ → Type 0
+IsSpace byte = (byte ≡ 32) ⊎ (byte ≡ 10)
+
+-- one of these is a blank
+space_blank : (byte : ℕ) → IsSpace byte → IsBlank (byte ∷ [])
+space_blank byte (inl e) = inl (ap (λ b. b ∷ []) e)
+space_blank byte (inr e) = inr (inl (ap (λ b. b ∷ []) e))
+
+-- bytes are their bytes, one by one
+one_by_one : (bytes : List ℕ) → bytes ≡ flat_map (λ blank. blank) (map (λ byte. byte ∷ []) bytes)
+one_by_one [] = refl
+one_by_one (byte ∷ bytes) = ap (λ rest. byte ∷ rest) (one_by_one bytes)
+
+-- spaces and line feeds are blanks
+pub spaces_blanks : (bytes : List ℕ) → All IsSpace bytes → AreBlanks bytes
+spaces_blanks bytes are = (
+  map (λ byte. byte ∷ []) bytes,
+  All-map IsBlank (λ byte. byte ∷ []) bytes (All-weaker IsSpace (λ byte. IsBlank (byte ∷ [])) space_blank bytes are),
+  one_by_one bytes,
+)
+
+-- a space, a line feed, and the beginning of a line are such bytes
+one_space : All IsSpace (32 ∷ [])
+one_space = All-cons IsSpace 32 [] (inl refl) (All-nil IsSpace)
+
+pub one_feed : All IsSpace (10 ∷ [])
+one_feed = All-cons IsSpace 10 [] (inr refl) (All-nil IsSpace)
+
+new_line_spaces : (depth : ℕ) (next : List ℕ) → All IsSpace (new_line depth next)
+new_line_spaces depth next =
+    let count = 4 * (if bytes_eq (codes "}") next then depth - 1 else depth)
+    in All-cons IsSpace 10 (replicate count 32) (inr refl) (All-replicate IsSpace count 32 (inl refl))
+
+-- so is a space that may be missing
+space_before_spaces : (tight : List (List ℕ)) (next : List ℕ) → All IsSpace (space_before tight next)
+space_before_spaces tight next = cond_both (is_one_of tight next) [] (32 ∷ []) (All IsSpace) (λ e. All-nil IsSpace) (λ e. one_space)
+
+-- what holds of each that may stand behind a block holds of the blanks there
+block_gap : (depth : ℕ) (next : List ℕ) (P : List ℕ → Type 0) → (bytes_eq (codes ";") next ≡ true → P []) → P (32 ∷ []) → P (10 ∷ 10 ∷ []) → P (new_line depth next) → P (gap_after Block depth next)
+block_gap depth next P none space lines line =
+    let apart = if depth == 0 then 10 ∷ 10 ∷ [] else new_line depth next
+    in cond_both (bytes_eq (codes ";") next) [] (if bytes_eq (codes "else") next then 32 ∷ [] else apart) P none
+    (λ e. cond_both (bytes_eq (codes "else") next) (32 ∷ []) apart P (λ f. space)
+    (λ f. cond_both (depth == 0) (10 ∷ 10 ∷ []) (new_line depth next) P (λ g. lines) (λ g. line)))
+
+-- the blanks before a token are such
+pub gap_spaces : (after : After) (depth : ℕ) (next : List ℕ) → All IsSpace (gap_after after depth next)
+gap_spaces Nothing depth next = All-nil IsSpace
+gap_spaces Line depth next = new_line_spaces depth next
+gap_spaces Block depth next =
+    block_gap depth next (All IsSpace) (λ e. All-nil IsSpace) one_space (All-cons IsSpace 10 (10 ∷ []) (inr refl) one_feed) (new_line_spaces depth next)
+gap_spaces Bracket depth next = All-nil IsSpace
+gap_spaces Keyword depth next = space_before_spaces closing next
+gap_spaces Other depth next = space_before_spaces (closing ++ applying) next
+
+-- each token ends before a mark before which there is no space, and before a space
+tight_ends : (tight : List (List ℕ)) (next more : List ℕ) → list_all ends_token tight ≡ true → ends_token (space_before tight next ++ next ++ more) ≡ true
+tight_ends tight next more all =
+    cond_both (is_one_of tight next) [] (32 ∷ []) (λ space. ends_token (space ++ next ++ more) ≡ true)
+    (λ e. ends_token-append next more (one_passes ends_token tight next all e))
+    (λ e. refl)
+
+-- each token ends before the blanks and the token behind it, but at the beginning and behind `(`, `[` and `.`
+gap_ends : (after : After) (depth : ℕ) (next more : List ℕ) → after ≢ Nothing → after ≢ Bracket → ends_token (gap_after after depth next ++ next ++ more) ≡ true
+gap_ends Nothing depth next more some other = absurd (some refl)
+gap_ends Line depth next more some other = refl
+gap_ends Block depth next more some other =
+    block_gap depth next (λ blanks. ends_token (blanks ++ next ++ more) ≡ true)
+    (λ e. ends_token-append next more (one_passes ends_token (codes ";" ∷ []) next refl (or_left (bytes_eq (codes ";") next) false e)))
+    refl refl refl
+gap_ends Bracket depth next more some other = absurd (other refl)
+gap_ends Keyword depth next more some other = tight_ends closing next more refl
+gap_ends Other depth next more some other = tight_ends (closing ++ applying) next more refl
+
+-- by four tests nothing is never chosen, and a bracket only where the third passes
+chosen : (block line bracket keyword : Bool) → let after = if block then Block else if line then Line else if bracket then Bracket else if keyword then Keyword else Other in (after ≢ Nothing) × (after ≡ Bracket → bracket ≡ true)
+chosen true line bracket keyword = (λ e. cc, λ e. cc)
+chosen false true bracket keyword = (λ e. cc, λ e. cc)
+chosen false false true keyword = (λ e. cc, λ e. refl)
+chosen false false false true = (λ e. cc, λ e. cc)
+chosen false false false false = (λ e. cc, λ e. cc)
+
+-- so a token is never nothing, and it is such a bracket only where it is `(`, `[` or `.`
+token_chosen : (spelling : List ℕ) → (after_token spelling ≢ Nothing) × (after_token spelling ≡ Bracket → is_one_of opening spelling ≡ true)
+token_chosen spelling =
+    chosen (bytes_eq (codes "}") spelling) (is_one_of (codes ";" ∷ codes "{" ∷ []) spelling) (is_one_of opening spelling) (is_one_of keywords spelling)
+
+-- a token other than these ends before what is laid behind it
+behind_ends : (place : Place) (spelling : List ℕ) (tokens : List Lexeme) → is_one_of opening spelling ≡ false → ends_token (laid (moved place spelling) tokens ++ codes "\n") ≡ true
+behind_ends place spelling [] other = refl
+behind_ends place spelling (token ∷ tokens) other =
+    let after = after_token spelling in
+    let depth = next_depth place.depth spelling in
+    let more = laid (moved (moved place spelling) token.spelling) tokens
+    in ends_token-append (gap_after after depth token.spelling ++ token.spelling ++ more) (codes "\n")
+    (gap_ends after depth token.spelling more (token_chosen spelling).0 (λ e. both_ways (is_one_of opening spelling) other ((token_chosen spelling).1 e)))
+
+-- each token is the longest with which it and what is laid behind it begin
+pub longest_laid : (place : Place) (spelling : List ℕ) (tokens : List Lexeme) → IsToken spelling → IsLongest spelling (laid (moved place spelling) tokens ++ codes "\n")
+longest_laid place spelling tokens is =
+    let behind = laid (moved place spelling) tokens ++ codes "\n"
+    in ⊎_elim
+    (λ one. longest_opening spelling behind one is)
+    (λ other. longest_before spelling behind is (behind_ends place spelling tokens other))
+    (cases_Bool (is_one_of opening spelling))
