@@ -1,4 +1,4 @@
-ghost use Rattle.std.specs.Prelude.{◌≡◌, ◌<◌, ◌≤◌, ◌^◌, length, IfOk, IfSome, IsErr};
+ghost use Rattle.std.specs.Prelude.{◌≡◌, ◌<◌, ◌≤◌, ◌^◌, length, IfErr, IfOk, IfSome, IsErr};
 ghost use Rattle.sl_outside.specs.Adapters.{disk_faults, disk_calls};
 
 use super::streams::write_whole;
@@ -16,7 +16,7 @@ const BUFFER_LEN: usize = 8192;
 
 /// The files of the system as a folder, whose names are paths. It tells nothing of what it holds. A name that doesn't exist, also
 /// one below a file, is None. A file that can't be opened, read or written whole, or that has more than 2^30 bytes, is a fault,
-/// but where the system says that memory ran out.
+/// but where the system says in opening or reading that memory ran out. In writing that too is a fault.
 #[derive(Drop)]
 pub struct FolderOnDisk<'a, R: Files> {
     rt: &'a R,
@@ -102,9 +102,12 @@ fn read_whole<F: Read>(alloc: Global, file: &mut F) -> Result<Row<u8>, Refused>
     Err(Refused::Failed)
 }
 
-fn write_file<R: Files>(rt: &R, name: &str, bytes: &[u8]) -> Result<(), Refused> {
+/// Every error is a fault, want of memory too: the file may have been emptied before.
+fn write_file<R: Files>(rt: &R, name: &str, bytes: &[u8]) -> Result<(), Refused>
+    ensures { IfErr result (λ refused. refused ≡ Refused.Failed) }
+{
     let written = fs::create(rt, name).and_then(|mut file| write_whole(&mut file, bytes));
-    written.map_err(|e| refused(e.kind()))
+    written.map_err(|_| Refused::Failed)
 }
 
 fn refused(kind: ErrorKind) -> Refused {
