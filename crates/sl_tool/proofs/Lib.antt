@@ -1,9 +1,16 @@
 pub mod Reader
 pub mod Reading
+pub mod Accepted
 pub mod Walking
+pub mod Tree
+pub mod Naming
+pub mod Stepped
+pub mod Meant
+pub mod Ran
 pub mod Answering
 pub mod Noting
 pub mod Printing
 pub mod Told
+pub mod Writing
 pub mod Promising
 pub mod Paths

@@ -1,10 +1,8 @@
 -- Bytes that are put one after another, each by a call of its own.
-use Rattle.std.proofs.Common.{◌≡◌, ℕ, suc, ◌+◌, ◌<◌, ◌≤◌, List, [], ◌∷◌, ◌++◌, length, take, drop, get_or, Some, refl, sym, ap, ◌∙◌, subst, append_assoc, append-nil, inl, inr}
-use Rattle.std.specs.Prelude.{Result, Ok, Err, IsErr}
-use Rattle.std.specs.List.{flat_map}
+use Rattle.std.proofs.Common.{◌≡◌, ℕ, suc, ◌<◌, ◌≤◌, List, [], ◌∷◌, ◌++◌, length, take, drop, get_or, Some, refl, sym, ap, ◌∙◌, subst, append_assoc, append-nil, inl, inr}
+use Rattle.std.specs.Prelude.{Result, Ok, Err}
 use Rattle.std.proofs.Math.Seq.{drop-cons}
-use Rattle.std.proofs.lemmas.List.{take-append-drop, take_more}
-use Rattle.std.proofs.lemmas.Grind.{flat_map-append}
+use Rattle.std.proofs.lemmas.List.{take-append-drop}
 use Rattle.sl_outside.specs.declared.source.Failed.{Failed}
 use Rattle.sl_outside.specs.Counts.{Rose}
 use Rattle.sl_outside.specs.Sink.{IsPrefix, SinkState, Put, Prints}
@@ -27,11 +25,6 @@ prints_stop [] ys a b failed h = absurd h
 prints_stop (x ∷ xs) ys a b failed (inl (m, put, rest)) = inl (m, put, prints_stop xs ys m b failed rest)
 prints_stop (x ∷ xs) ys a b failed (inr (e, put)) = inr (e, put)
 
--- a failure, whichever value tells it
-pub prints_failure : (xs : List ℕ) (a b : SinkState) (failed : Failed) (result : Result (Unit {0}) Failed) → IsErr result → Prints xs a b (Err failed) → Prints xs a b result
-prints_failure xs a b failed (Ok done) e h = absurd (cc e)
-prints_failure xs a b failed (Err other) e h = h
-
 -- the same bytes by another name
 pub prints_same : (a b : SinkState) (xs ys : List ℕ) (result : Result (Unit {0}) Failed) → xs ≡ ys → Prints xs a b result → Prints ys a b result
 prints_same a b xs ys result e h = subst (λ bytes. Prints bytes a b result) e h
@@ -39,26 +32,6 @@ prints_same a b xs ys result e h = subst (λ bytes. Prints bytes a b result) e h
 -- a list, cut at one of its elements
 pub cut_at : {X : Type 0} (xs : List X) (i : ℕ) (x d : X) → i < length xs → x ≡ get_or xs i d → take i xs ++ (x ∷ drop (suc i) xs) ≡ xs
 cut_at xs i x d within is = ap (λ y. take i xs ++ (y ∷ drop (suc i) xs)) is ∙ (ap (λ rest. take i xs ++ rest) (sym (drop-cons xs i d within)) ∙ take-append-drop i xs)
-
--- what a list of elements prints, one after another, where the one at i failed
-pub prints_up_to : {X : Type 0} (f : X → List ℕ) (xs : List X) (i : ℕ) (x d : X) (a b c : SinkState) (failed : Failed) → i < length xs → x ≡ get_or xs i d → Prints (flat_map f (take i xs)) a b (Ok tt) → Prints (f x) b c (Err failed) → Prints (flat_map f xs) a c (Err failed)
-prints_up_to f xs i x d a b c failed within is h k =
-    prints_same a c ((flat_map f (take i xs) ++ f x) ++ flat_map f (drop (suc i) xs)) (flat_map f xs) (Err failed)
-    (append_assoc (flat_map f (take i xs)) (f x) (flat_map f (drop (suc i) xs))
-    ∙ (sym (flat_map-append f (take i xs) (x ∷ drop (suc i) xs)) ∙ ap (flat_map f) (cut_at xs i x d within is)))
-    (prints_stop (flat_map f (take i xs) ++ f x) (flat_map f (drop (suc i) xs)) a c failed (prints_then (flat_map f (take i xs)) (f x) a b c (Err failed) h k))
-
--- and where the one at i was printed too
-pub prints_more : {X : Type 0} (f : X → List ℕ) (xs : List X) (i : ℕ) (x d : X) (a b c : SinkState) → i < length xs → x ≡ get_or xs i d → Prints (flat_map f (take i xs)) a b (Ok tt) → Prints (f x) b c (Ok tt) → Prints (flat_map f (take (i + 1) xs)) a c (Ok tt)
-prints_more f xs i x d a b c within is h k =
-    prints_same a c (flat_map f (take i xs) ++ f x) (flat_map f (take (i + 1) xs)) (Ok tt)
-    (ap (λ rest. flat_map f (take i xs) ++ rest) (sym (append-nil (f x))) ∙ (sym (flat_map-append f (take i xs) (x ∷ [])) ∙ ap (flat_map f) (ap (λ y. take i xs ++ (y ∷ [])) is ∙ sym (take_more xs i d within))))
-    (prints_then (flat_map f (take i xs)) (f x) a b c (Ok tt) h k)
-
--- bytes, each as a list of one
-pub singles : (bytes : List ℕ) → flat_map (λ byte. byte ∷ []) bytes ≡ bytes
-singles [] = refl
-singles (byte ∷ bytes) = ap (λ rest. byte ∷ rest) (singles bytes)
 
 -- what a sink holds behind bytes that were all put
 pub printed_whole : (xs : List ℕ) (a b : SinkState) (held : List ℕ) → a.held ≡ Some held → Prints xs a b (Ok tt) → b.held ≡ Some (held ++ xs)

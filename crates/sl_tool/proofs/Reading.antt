@@ -1,45 +1,279 @@
 -- Words are read exactly as they are meant.
-use Rattle.std.proofs.Common.{◌≡◌, ℕ, List, [], ◌∷◌, Bool, true, false, ◌&&◌, ◌==◌, not, Option, Some, None, refl, ap, ap₂, ◌∙◌, subst, cond}
+use Rattle.std.proofs.Common.{◌≡◌, ◌≢◌, ◌⊎◌, inl, inr, ℕ, zero, suc, List, [], ◌∷◌, ◌++◌, append_assoc, drop, Bool, true, false, ◌==◌, not, Option, Some, None, option_map, refl, sym, ap, ap₂, ◌∙◌, subst, cond, arith}
 use Rattle.std.specs.Prelude.{codes}
+use Rattle.std.specs.List.{All, Contains, starts_with}
+use Rattle.std.specs.Option.{option_and_then}
 use Rattle.std.specs.Str.{bytes_eq}
-use Rattle.std.proofs.lemmas.Slice.Eq.{bytes_eq-Decides}
+use Rattle.std.proofs.lemmas.Slice.Eq.{bytes_eq-Decides, starts_is}
 use Rattle.std.proofs.lemmas.Bool.Decides.{Decides-eqb}
-use Rattle.sl_tool.specs.Words.{Command, Run, IsFileWord, Reads, HasNoReading, is_file_word, command_of}
+use Rattle.std.proofs.lemmas.List.Elements.{All-head, All-tail, All-nil, All-cons}
+use Rattle.std.proofs.lemmas.List.{append-nil}
+use Rattle.std.proofs.lemmas.Option.{cond_some, option_and_then_some}
+use Rattle.sl_tool.specs.Words.{Command, Run, Emit, IsPlainWord, IsJoined, value_options, Part, File, Given, GivesValue, IsPart, AreParts, HasParts, files_in, options_in, Gives, Reads, HasNoReading}
+use Rattle.sl_tool.specs.WordsReading.{is_plain, Kind, IsFile, Waits, HasValue, IsDashes, IsOther, kind_behind, kind_of, Gathered, nothing, with_file, with_name, gathered, run_given, emit_under, emit_given, run_words, emit_words, command_of}
+use Rattle.sl_tool.specs.declared.words.Place.{Place}
+use Rattle.sl_tool.specs.declared.words.Place.TheVariants.{Among, BehindOption, BehindDashes}
 
--- a word that passes the test names a file
-file_word : (word : List ℕ) → is_file_word word ≡ true → IsFileWord word
-file_word [] e = absurd (cc e)
-file_word (byte ∷ bytes) e = λ is. let f : (byte == 45) ≡ true = (Decides-eqb byte 45).1 is in cc
+-- a word that passes the test is plain
+plain : (word : List ℕ) → is_plain word ≡ true → IsPlainWord word
+plain [] e = absurd (cc e)
+plain (byte ∷ []) e = tt
+plain (byte ∷ next ∷ bytes) e = λ is. let f : (byte == 45) ≡ true = (Decides-eqb byte 45).1 is in cc
 
--- and one that names a file passes it
-passes_file_word : (word : List ℕ) → IsFileWord word → is_file_word word ≡ true
-passes_file_word [] h = absurd h
-passes_file_word (byte ∷ bytes) h = at (byte == 45) refl
+-- and one that is plain passes it
+passes_plain : (word : List ℕ) → IsPlainWord word → is_plain word ≡ true
+passes_plain [] h = absurd h
+passes_plain (byte ∷ []) h = refl
+passes_plain (byte ∷ next ∷ bytes) h = at (byte == 45) refl
   where
     at : (t : Bool) → (byte == 45) ≡ t → not t ≡ true
     at true e = absurd (h ((Decides-eqb byte 45).0 e))
     at false e = refl
 
--- the command of `run FILE`
-pub command_of_reading : (words : List (List ℕ)) (command : Command) → Reads words command → command_of words ≡ Some command
-command_of_reading words (Run file) (is_file, e) =
-    ap command_of e
-    ∙ ap₂ (λ a b. cond (a && b) (Some (Run file)) None) ((bytes_eq-Decides (codes "run") (codes "run")).1 refl) (passes_file_word file is_file)
+-- What parts give -----------------------------------------------------------------------------------------------------
 
--- two words that have a command
-two_words : (word file : List ℕ) (command : Command) (a b : Bool) → bytes_eq word (codes "run") ≡ a → is_file_word file ≡ b → cond (a && b) (Some (Run file)) None ≡ Some command → Reads (word ∷ file ∷ []) command
-two_words word file command true true e f h =
-    let same : Run file ≡ command = cc in
-    subst (λ c. Reads (word ∷ file ∷ []) c) same (file_word file f, ap (λ w. w ∷ file ∷ []) ((bytes_eq-Decides word (codes "run")).0 e))
-two_words word file command true false e f h = absurd (cc h)
-two_words word file command false b e f h = absurd (cc h)
+-- what a part adds to what stands behind it
+abbrev with_part : Part → Gathered → Gathered
+with_part (File name) behind = record behind { files = name ∷ behind.files }
+with_part (Given option value) behind = record behind { options = (option, value) ∷ behind.options }
+
+-- the one option with a value is `-o`
+the_option : (option : List ℕ) → Contains value_options option → option ≡ codes "-o"
+the_option option (zero, h, e) = sym e
+the_option option (suc k, h, e) = absurd (omega arith)
+
+-- a plain word is a file
+kind_of_plain : (word : List ℕ) → is_plain word ≡ true → kind_of word ≡ IsFile
+kind_of_plain word e = rw e
+
+-- what is joined to `-o` is its value
+kind_of_joined : (value : List ℕ) → IsJoined value → kind_of (codes "-o" ++ value) ≡ HasValue value
+kind_of_joined [] h = absurd h
+kind_of_joined (byte ∷ bytes) h = at (byte == 61) refl
+  where
+    at : (t : Bool) → (byte == 61) ≡ t → kind_behind (byte ∷ bytes) ≡ HasValue (byte ∷ bytes)
+    at true e = absurd (h ((Decides-eqb byte 61).0 e))
+    at false e = rw e
+
+-- the words of an option give its value
+value_gathered : (value : List ℕ) (own words : List (List ℕ)) → GivesValue (codes "-o") value own
+    → gathered Among (own ++ words) ≡ option_map (with_name value) (gathered Among words)
+value_gathered value own words (inl (e, is)) = rw (e, passes_plain value is)
+value_gathered value own words (inr (inl e)) = rw e
+value_gathered value own words (inr (inr (e, short, is))) = rw (e, kind_of_joined value is)
+
+-- the words of a part give it
+part_gathered : (part : Part) (own words : List (List ℕ)) → IsPart part own
+    → gathered Among (own ++ words) ≡ option_map (with_part part) (gathered Among words)
+part_gathered (File name) own words (e, is) = rw (e, gathered, kind_of_plain name (passes_plain name is))
+part_gathered (Given option value) own words (has, gives) =
+    let is = the_option option has in
+    rw is (value_gathered value own words (subst (λ option. GivesValue option value own) is gives))
+
+-- parts before what is gathered
+abbrev with_parts : List Part → Gathered → Gathered
+with_parts parts behind = record { options = options_in parts ++ behind.options; files = files_in parts ++ behind.files }
+
+-- a part before parts
+with_more : (part : Part) (parts : List Part) (behind : Gathered) → with_part part (with_parts parts behind) ≡ with_parts (part ∷ parts) behind
+with_more (File name) parts behind = refl
+with_more (Given option value) parts behind = refl
+
+-- words give their parts, before what the words behind them give
+parts_gathered : (parts : List Part) (front words : List (List ℕ)) (behind : Gathered) → AreParts parts front → gathered Among words ≡ Some behind
+    → gathered Among (front ++ words) ≡ Some (with_parts parts behind)
+parts_gathered [] front words behind e h = rw e h
+parts_gathered (part ∷ parts) front words behind (own, rest, e, is, are) h =
+    rw (e, append_assoc own rest words, part_gathered part own (rest ++ words) is, parts_gathered parts rest words behind are h)
+    (ap (λ found. Some found) (with_more part parts behind))
+
+-- words behind `--` that aren't empty are files
+named_gathered : (more : List (List ℕ)) → All (λ name. name ≢ []) more → gathered BehindDashes more ≡ Some (record { options = []; files = more })
+named_gathered [] all = refl
+named_gathered ([] ∷ more) all = absurd (All-head (λ name. name ≢ []) [] more all refl)
+named_gathered ((byte ∷ bytes) ∷ more) all = rw (named_gathered more (All-tail (λ name. name ≢ []) (byte ∷ bytes) more all))
+
+-- words give the options of their parts, and the files of their parts and those behind `--`
+words_gathered : (parts : List Part) (more words : List (List ℕ)) → HasParts parts more words
+    → gathered Among words ≡ Some (record { options = options_in parts; files = files_in parts ++ more })
+words_gathered parts more words (inl (none, are)) =
+    let all = parts_gathered parts words [] nothing are refl in
+    rw none (rw (append-nil words, append-nil (options_in parts)) at all)
+words_gathered parts more words (inr (front, e, are, all)) =
+    let found = parts_gathered parts front (codes "--" ∷ more) (record { options = []; files = more }) are (named_gathered more all) in
+    rw e (rw (append-nil (options_in parts)) at found)
+
+-- what words give is gathered of them
+gives_gathered : (options : List (List ℕ × List ℕ)) (files words : List (List ℕ)) → Gives options files words
+    → gathered Among words ≡ Some (record { options = options; files = files })
+gives_gathered options files words (parts, more, has, e, f) =
+    words_gathered parts more words has ∙ ap₂ (λ a b. Some (record { options = a; files = b })) e f
+
+-- `emit` under a name that isn't empty
+under_name : (name file : List ℕ) → name ≢ [] → emit_under (codes "-o") name file ≡ Some (Emit name file)
+under_name [] file h = absurd (h refl)
+under_name (byte ∷ bytes) file h = refl
+
+-- the command of words that ask for it
+pub command_of_reading : (words : List (List ℕ)) (command : Command) → Reads words command → command_of words ≡ Some command
+command_of_reading words (Run file) (rest, e, gives) =
+    ap command_of e ∙ ap (λ found. option_and_then (λ found. run_given found.options found.files) found) (gives_gathered [] (file ∷ []) rest gives)
+command_of_reading words (Emit name file) (rest, e, some, gives) =
+    ap command_of e
+    ∙ ap (λ found. option_and_then (λ found. emit_given found.options found.files) found) (gives_gathered ((codes "-o", name) ∷ []) (file ∷ []) rest gives)
+    ∙ under_name name file some
+
+-- The parts of words --------------------------------------------------------------------------------------------------
+
+-- what a word of this kind is
+abbrev KindMeans : Kind → List ℕ → Type 0
+KindMeans IsFile word = IsPlainWord word
+KindMeans Waits word = word ≡ codes "-o"
+KindMeans (HasValue value) word = GivesValue (codes "-o") value (word ∷ [])
+KindMeans IsDashes word = word ≡ codes "--"
+KindMeans IsOther word = Unit {0}
+
+-- what a word is that begins with `-o`
+behind_means : (word rest : List ℕ) → word ≡ codes "-o" ++ rest → KindMeans (kind_behind rest) word
+behind_means word [] e = e
+behind_means word (byte ∷ bytes) e = at (byte == 61) refl
+  where
+    at : (t : Bool) → (byte == 61) ≡ t → GivesValue (codes "-o") (cond t bytes (byte ∷ bytes)) (word ∷ [])
+    at true is = inr (inl (ap (λ w. w ∷ []) (e ∙ ap (λ b. codes "-o" ++ b ∷ bytes) ((Decides-eqb byte 61).0 is))))
+    at false other = inr (inr (ap (λ w. w ∷ []) e, (111, refl), λ is. let f : (byte == 61) ≡ true = (Decides-eqb byte 61).1 is in cc))
+
+-- what a word is, by its kind
+kind_means : (word : List ℕ) → KindMeans (kind_of word) word
+kind_means word = at (is_plain word) refl (bytes_eq word (codes "--")) refl (starts_with ◌==◌ word (codes "-o")) refl
+  where
+    at : (p : Bool) → is_plain word ≡ p → (d : Bool) → bytes_eq word (codes "--") ≡ d → (s : Bool) → starts_with ◌==◌ word (codes "-o") ≡ s
+        → KindMeans (cond p IsFile (cond d IsDashes (cond s (kind_behind (drop 2 word)) IsOther))) word
+    at true e d f s g = plain word e
+    at false e true f s g = (bytes_eq-Decides word (codes "--")).0 f
+    at false e false f true g = behind_means word (drop 2 word) ((starts_is Decides-eqb word (codes "-o") (starts_with ◌==◌ word (codes "-o")) refl).0 g)
+    at false e false f false g = tt
+
+-- a part before the parts of words
+has_more : (part : Part) (own : List (List ℕ)) (parts : List Part) (more words : List (List ℕ)) → IsPart part own → HasParts parts more words
+    → HasParts (part ∷ parts) more (own ++ words)
+has_more part own parts more words is (inl (none, are)) = inl (none, (own, words, refl, is, are))
+has_more part own parts more words is (inr (front, e, are, all)) =
+    inr (own ++ front, ap (λ rest. own ++ rest) e ∙ sym (append_assoc own front (codes "--" ∷ more)), (own, front, refl, is, are), all)
+
+-- the words of a part before words give it as well
+gives_more : (part : Part) (own words : List (List ℕ)) (behind : Gathered) → IsPart part own → Gives behind.options behind.files words
+    → Gives (with_part part behind).options (with_part part behind).files (own ++ words)
+gives_more (File name) own words behind is (parts, more, has, e, f) =
+    (File name ∷ parts, more, has_more (File name) own parts more words is has, e, ap (λ files. name ∷ files) f)
+gives_more (Given option value) own words behind is (parts, more, has, e, f) =
+    (Given option value ∷ parts, more, has_more (Given option value) own parts more words is has, ap (λ options. (option, value) ∷ options) e, f)
+
+-- `-o` is the option with a value
+has_option : Contains value_options (codes "-o")
+has_option = (0, omega arith, refl)
+
+-- a choice of what may be none, that gives something, gives it by one of its two sides
+chosen : {A : Type 0} (b : Bool) (x z : Option A) (y : A) → cond b x z ≡ Some y → ((b ≡ true) × (x ≡ Some y)) ⊎ ((b ≡ false) × (z ≡ Some y))
+chosen true x z y h = inl (refl, h)
+chosen false x z y h = inr (refl, h)
+
+-- where only one side gives something, it is by that one
+held : {A : Type 0} (b : Bool) (x : Option A) (y : A) → cond b x None ≡ Some y → (b ≡ true) × (x ≡ Some y)
+held true x y h = (refl, h)
+held false x y h = absurd (cc h)
+
+-- what is mapped to something was something
+mapped : {A B : Type 0} (f : A → B) (x : Option A) (y : B) → option_map f x ≡ Some y → (z : A) × (x ≡ Some z) × (f z ≡ y)
+mapped f None y h = absurd (cc h)
+mapped f (Some z) y h = (z, refl, cc)
+
+-- where a part is gathered before words that give what is gathered of them, all words give it
+more_means : (part : Part) (own words : List (List ℕ)) (found : Gathered) → IsPart part own
+    → ((behind : Gathered) → gathered Among words ≡ Some behind → Gives behind.options behind.files words)
+    → option_map (with_part part) (gathered Among words) ≡ Some found → Gives found.options found.files (own ++ words)
+more_means part own words found is means h =
+    let t = mapped (with_part part) (gathered Among words) found h in
+    subst (λ found. Gives found.options found.files (own ++ words)) t.2 (gives_more part own words t.0 is (means t.0 t.1))
+
+-- words behind `--` that aren't empty are given as files
+dashes_give : (words : List (List ℕ)) (found : Gathered) → (found ≡ record { options = []; files = words }) × All (λ name. name ≢ []) words
+    → Gives found.options found.files (codes "--" ∷ words)
+dashes_give words found (e, all) =
+    subst (λ found. Gives found.options found.files (codes "--" ∷ words)) (sym e) ([], words, inr ([], refl, refl, all), refl, refl)
+
+-- what is gathered of words that stand at a place is what they give there
+abbrev Meant : Place → List (List ℕ) → Gathered → Type 0
+Meant Among words found = Gives found.options found.files words
+Meant BehindOption words found = Gives found.options found.files (codes "-o" ∷ words)
+Meant BehindDashes words found = (found ≡ record { options = []; files = words }) × All (λ name. name ≢ []) words
+
+-- words give what is gathered of them
+gathered_means : (place : Place) (words : List (List ℕ)) (found : Gathered) → gathered place words ≡ Some found → Meant place words found
+gathered_means Among [] found h =
+    let e : nothing ≡ found = cc in
+    subst (λ found. Gives found.options found.files []) e ([], [], inl (refl, refl), refl, refl)
+gathered_means Among (word ∷ words) found h =
+    (elim (kind_of word) as (λ kind. kind_of word ≡ kind → KindMeans kind word → Gives found.options found.files (word ∷ words)) [
+      | IsFile ↦ λ e is. more_means (File word) (word ∷ []) words found (refl, is) (gathered_means Among words) (rw (e, gathered) at h)
+      | Waits ↦ λ e is. subst (λ w. Gives found.options found.files (w ∷ words)) (sym is) (gathered_means BehindOption words found (rw (e, gathered) at h))
+      | HasValue value ↦ λ e is. more_means (Given (codes "-o") value) (word ∷ []) words found (has_option, is) (gathered_means Among words) (rw (e, gathered) at h)
+      | IsDashes ↦ λ e is. subst (λ w. Gives found.options found.files (w ∷ words)) (sym is) (dashes_give words found (gathered_means BehindDashes words found (rw (e, gathered) at h)))
+      | IsOther ↦ λ e is. let f = rw (e, gathered) at h in absurd (cc f)
+    ]) refl (kind_means word)
+gathered_means BehindOption [] found h = absurd (cc h)
+gathered_means BehindOption (word ∷ words) found h =
+    let t = held (is_plain word) (option_map (with_name word) (gathered Among words)) found h in
+    more_means (Given (codes "-o") word) (codes "-o" ∷ word ∷ []) words found (has_option, inl (refl, plain word t.0)) (gathered_means Among words) t.1
+gathered_means BehindDashes [] found h = (cc, All-nil (λ name. name ≢ []))
+gathered_means BehindDashes ([] ∷ words) found h = absurd (cc h)
+gathered_means BehindDashes ((byte ∷ bytes) ∷ words) found h =
+    let t = mapped (with_file (byte ∷ bytes)) (gathered BehindDashes words) found h in
+    let means = gathered_means BehindDashes words t.0 t.1 in
+    (sym t.2 ∙ ap (with_file (byte ∷ bytes)) means.0, All-cons (λ name. name ≢ []) (byte ∷ bytes) words (λ none. cc) means.1)
+
+-- words behind `run` that give one file and no option are read so
+run_read : (options : List (List ℕ × List ℕ)) (files words : List (List ℕ)) (command : Command) → Gives options files words
+    → run_given options files ≡ Some command → Reads (codes "run" ∷ words) command
+run_read [] [] words command gives h = absurd (cc h)
+run_read [] (file ∷ []) words command gives h =
+    let e : Run file ≡ command = cc in subst (λ c. Reads (codes "run" ∷ words) c) e (words, refl, gives)
+run_read [] (file ∷ other ∷ files) words command gives h = absurd (cc h)
+run_read (option ∷ options) files words command gives h = absurd (cc h)
+
+-- words behind `emit` that give this file and this option are read so
+under_read : (option name file : List ℕ) (words : List (List ℕ)) (command : Command) → Gives ((option, name) ∷ []) (file ∷ []) words
+    → emit_under option name file ≡ Some command → Reads (codes "emit" ∷ words) command
+under_read option [] file words command gives h = absurd (cc h)
+under_read option (byte ∷ bytes) file words command gives h =
+    let t = cond_some (bytes_eq option (codes "-o")) (Emit (byte ∷ bytes) file) command h in
+    let is = (bytes_eq-Decides option (codes "-o")).0 t.0 in
+    subst (λ c. Reads (codes "emit" ∷ words) c) t.1
+    (words, refl, (λ none. absurd (cc none)), subst (λ o. Gives ((o, byte ∷ bytes) ∷ []) (file ∷ []) words) is gives)
+
+-- words behind `emit` that give one file and one option are read so
+emit_read : (options : List (List ℕ × List ℕ)) (files words : List (List ℕ)) (command : Command) → Gives options files words
+    → emit_given options files ≡ Some command → Reads (codes "emit" ∷ words) command
+emit_read [] files words command gives h = absurd (cc h)
+emit_read (option ∷ []) [] words command gives h = absurd (cc h)
+emit_read (option ∷ []) (file ∷ []) words command gives h = under_read option.0 option.1 file words command gives h
+emit_read (option ∷ []) (file ∷ other ∷ files) words command gives h = absurd (cc h)
+emit_read (option ∷ other ∷ options) files words command gives h = absurd (cc h)
 
 -- words that have a command are read so
 pub reading_of_command : (words : List (List ℕ)) (command : Command) → command_of words ≡ Some command → Reads words command
 reading_of_command [] command h = absurd (cc h)
-reading_of_command (word ∷ []) command h = absurd (cc h)
-reading_of_command (word ∷ file ∷ []) command h = two_words word file command (bytes_eq word (codes "run")) (is_file_word file) refl refl h
-reading_of_command (word ∷ file ∷ other ∷ words) command h = absurd (cc h)
+reading_of_command (word ∷ words) command h =
+    elim (chosen (bytes_eq word (codes "run")) (run_words words) (cond (bytes_eq word (codes "emit")) (emit_words words) None) command h) [
+      | inl (is, e) ↦
+          subst (λ w. Reads (w ∷ words) command) (sym ((bytes_eq-Decides word (codes "run")).0 is))
+          (option_and_then_some (λ found. run_given found.options found.files) (gathered Among words) command e
+          (λ found g. run_read found.options found.files words command (gathered_means Among words found g)))
+      | inr (_, e) ↦
+          let t = held (bytes_eq word (codes "emit")) (emit_words words) command e in
+          subst (λ w. Reads (w ∷ words) command) (sym ((bytes_eq-Decides word (codes "emit")).0 t.0))
+          (option_and_then_some (λ found. emit_given found.options found.files) (gathered Among words) command t.1
+          (λ found g. emit_read found.options found.files words command (gathered_means Among words found g)))
+    ]
 
 -- words with no command have no reading
 pub no_reading : (words : List (List ℕ)) → command_of words ≡ None → HasNoReading words

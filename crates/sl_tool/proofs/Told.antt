@@ -40,3 +40,8 @@ told_is (Some y) x h = ap Some h
 pub finds_read : (told : Option Contents) (file : List ℕ) (found given : Option (List ℕ)) → ReadGives told file (Ok found) → found ≡ given → Finds told file given
 finds_read None file found given h e = tt
 finds_read (Some held) file found given h e = sym h ∙ e
+
+-- and where it stays, it is still told
+pub still_told : {A : Type 0} (o o' : Option A) (x : A) → IsTold o x → o' ≡ o → IfSome o (λ _. o' ≡ Some x)
+still_told None o' x h e = tt
+still_told (Some y) o' x h e = e ∙ ap Some h

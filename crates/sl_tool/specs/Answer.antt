@@ -1,5 +1,6 @@
 -- The tool as one function: what a call answers and leaves where nothing fails and memory is enough.
-use Rattle.std.specs.Prelude.{ℕ, ℤ, pos, negsuc, List, [], Option, Some, None, nat_le, if◌then◌else◌}
+use Rattle.std.specs.Prelude.{ℕ, ℤ, pos, negsuc, List, [], ◌++◌, Option, Some, None, nat_le, if◌then◌else◌, codes}
+use Rattle.std.specs.Str.{bytes_eq}
 use Rattle.sl_outside.specs.Folder.{Contents}
 use Rattle.sl_run.specs.Run.{Ending, Done, Halt, TurnsSpent, StackSpent, Stuck}
 use Rattle.sl_run.specs.Outcome.{Outcome, printed}
@@ -7,9 +8,13 @@ use Rattle.sl_tool.specs.declared.status.Status.{Status}
 use Rattle.sl_tool.specs.declared.status.Status.TheVariants as status
 use Rattle.sl_tool.specs.declared.straight.Straight.{Straight}
 use Rattle.sl_tool.specs.StraightReading.{straight_of}
+use Rattle.sl_text.specs.declared.rule.Rule.{Rule}
+use Rattle.sl_tool.specs.Accepting.{first_broken, line_at, column_at}
 use Rattle.sl_tool.specs.Meaning.{run_of}
-use Rattle.sl_tool.specs.Words.{Command, Run, command_of}
-use Rattle.sl_tool.specs.Texts.{usage_line, no_file_line, turns_spent_line, stack_spent_line, exit_value_line, not_built_line}
+use Rattle.sl_tool.specs.Tree.{written}
+use Rattle.sl_tool.specs.Words.{Command, Run, Emit, file_of}
+use Rattle.sl_tool.specs.WordsReading.{command_of}
+use Rattle.sl_tool.specs.Texts.{emitted_line, usage_line, broken_line, no_file_line, turns_spent_line, stack_spent_line, exit_value_line, not_built_line}
 
 -- the exit status of the process
 abbrev pub code_of : Status → ℕ
@@ -75,20 +80,42 @@ rejected status line files input = record { status = status; files = files; out 
 abbrev pub ran : Outcome → Contents → Answer
 ran run files = record { status = run_status run.ending; files = files; out = printed run.events; note = run_line run.ending; rest = run.rest }
 
--- `run` of what was read: a straight program, or something that isn't built yet
-abbrev pub answer_to_program : Option Straight → Contents → List ℕ → Answer
-answer_to_program None files input = rejected status.NotBuilt not_built_line files input
-answer_to_program (Some program) files input = ran (run_of program input default_turns) files
+-- the name under which C is written
+abbrev pub c_name : List ℕ → List ℕ
+c_name name = name ++ codes ".c"
 
--- `run` of a file that has these bytes, or isn't there
-abbrev pub answer_to_file : List ℕ → Option (List ℕ) → Contents → List ℕ → Answer
-answer_to_file file None files input = rejected status.NoFile (no_file_line file) files input
-answer_to_file file (Some bytes) files input = answer_to_program (straight_of bytes) files input
+-- the files with these bytes under a name
+abbrev pub with_file : Contents → List ℕ → List ℕ → Contents
+with_file files name bytes = λ other. if bytes_eq other name then Some bytes else files other
+
+-- C that was written
+abbrev pub emitted : List ℕ → List ℕ → Contents → List ℕ → Answer
+emitted name text files input = record { status = status.Exit 0; files = with_file files (c_name name) text; out = emitted_line (c_name name) text; note = []; rest = input }
+
+-- what a command does with a straight program
+abbrev pub answer_to_straight : Command → Straight → Contents → List ℕ → Answer
+answer_to_straight (Run file) program files input = ran (run_of program input default_turns) files
+answer_to_straight (Emit name file) program files input = emitted name (written program) files input
+
+-- a command's answer to what was read: a straight program, or something that isn't built yet
+abbrev pub answer_to_program : Command → Option Straight → Contents → List ℕ → Answer
+answer_to_program command None files input = rejected status.NotBuilt not_built_line files input
+answer_to_program command (Some program) files input = answer_to_straight command program files input
+
+-- a command's answer to bytes that break this rule first, or none
+abbrev pub answer_to_source : Command → List ℕ → Option Rule → Contents → List ℕ → Answer
+answer_to_source command bytes (Some rule) files input = rejected status.Broken (broken_line (file_of command) (line_at bytes 0) (column_at bytes 0) rule) files input
+answer_to_source command bytes None files input = answer_to_program command (straight_of bytes) files input
+
+-- a command's answer to a file that has these bytes, or isn't there
+abbrev pub answer_to_file : Command → Option (List ℕ) → Contents → List ℕ → Answer
+answer_to_file command None files input = rejected status.NoFile (no_file_line (file_of command)) files input
+answer_to_file command (Some bytes) files input = answer_to_source command bytes (first_broken bytes) files input
 
 -- the answer to a command, or to words that have no reading
 abbrev pub answer_to : Option Command → Contents → List ℕ → Answer
 answer_to None files input = rejected status.Usage usage_line files input
-answer_to (Some (Run file)) files input = answer_to_file file (files file) files input
+answer_to (Some command) files input = answer_to_file command (files (file_of command)) files input
 
 -- the answer to these words, over these files and this input
 unfoldable pub answer_of : List (List ℕ) → Contents → List ℕ → Answer

@@ -1,10 +1,14 @@
 pub mod Straight
 pub mod StraightReading
+pub mod Accepting
 pub mod Meaning
+pub mod Tree
 pub mod Words
+pub mod WordsReading
 pub mod Texts
 pub mod Answer
 pub mod Outside
 pub mod Promise
 pub mod Stopping
 pub mod Parts
+pub mod Stepping

@@ -1,8 +1,8 @@
 -- What a refused call of the folder stops a file's run for.
 use Rattle.sl_outside.specs.declared.folder.Refused.{Refused}
 use Rattle.sl_outside.specs.declared.folder.Refused.TheVariants as refused
-use Rattle.sl_tool.specs.declared.running.Stop.{Stop}
-use Rattle.sl_tool.specs.declared.running.Stop.TheVariants as stop
+use Rattle.sl_tool.specs.declared.stop.Stop.{Stop}
+use Rattle.sl_tool.specs.declared.stop.Stop.TheVariants as stop
 
 -- a fault of the folder, or no memory
 abbrev pub stop_of : Refused → Stop

@@ -10,8 +10,8 @@
 --     }
 --   }
 --
--- NAME is an ASCII capital, then ASCII letters or digits, and no reserved name. TEXT has at most 100 printable bytes of ASCII, without the
--- quotation mark and the backslash. VALUE is a number from 0 to 63.
+-- NAME is an ASCII capital, then ASCII letters or digits, and no reserved name. TEXT has at most 100 printable bytes of ASCII,
+-- without the quotation mark and the backslash. VALUE is a number from 0 to 63.
 use Rattle.std.specs.Prelude.{◌≡◌, ◌≢◌, ◌⊎◌, ℕ, ◌≤◌, List, [], ◌∷◌, ◌++◌, length, map, All, Contains, codes}
 use Rattle.std.specs.List.{flat_map}
 use Rattle.std.specs.Fmt.{decimal}

@@ -1,10 +1,20 @@
--- The lines that go with the statuses, each ended by a line feed.
-use Rattle.std.specs.Prelude.{ℕ, ℤ, List, ◌++◌, codes}
-use Rattle.std.specs.Fmt.{signed_decimal}
+-- The lines of the tool, each ended by a line feed: that of `emit` on `out`, and those that go with the statuses on `note`.
+use Rattle.std.specs.Prelude.{ℕ, ℤ, List, ◌++◌, length, codes}
+use Rattle.std.specs.Fmt.{decimal, signed_decimal}
+use Rattle.sl_text.specs.declared.rule.Rule.{Rule}
+use Rattle.sl_text.specs.Rules.{rule_text}
+
+-- `emit`: the name of the file that was written, and how many bytes it has
+abbrev pub emitted_line : List ℕ → List ℕ → List ℕ
+emitted_line file text = file ++ codes " " ++ decimal (length text) ++ codes " bytes\n"
 
 -- 64: the words have no reading
 abbrev pub usage_line : List ℕ
 usage_line = codes "usage: check, emit, run, step, stack or sample\n"
+
+-- 65: a source breaks a rule, at this line and column
+abbrev pub broken_line : List ℕ → ℕ → ℕ → Rule → List ℕ
+broken_line file line column rule = file ++ (codes ":" ++ (decimal line ++ (codes ":" ++ (decimal column ++ (codes ": " ++ (rule_text rule ++ codes "\n"))))))
 
 -- 67: the run needs more turns than it has
 abbrev pub turns_spent_line : List ℕ

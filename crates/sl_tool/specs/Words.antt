@@ -1,31 +1,96 @@
--- How the words after the program's name are read.
-use Rattle.std.specs.Prelude.{◌≡◌, ◌≢◌, ℕ, List, [], ◌∷◌, Bool, false, ◌&&◌, ◌==◌, not, if◌then◌else◌, Option, Some, None, codes}
-use Rattle.std.specs.Str.{bytes_eq}
+-- How the words after the program's name are read: the relation that says it.
+use Rattle.std.specs.Prelude.{◌≡◌, ◌≢◌, ◌⊎◌, ℕ, List, [], ◌∷◌, ◌++◌, codes}
+use Rattle.std.specs.List.{All, Contains}
 
 -- what the words can ask for
 pub data Command : Type 0 where
   -- `run FILE`: the program in this file is run
   Run : (file : List ℕ) → Command
+  -- `emit -o NAME FILE`: the C of the program in this file is written under NAME.c
+  Emit : (name file : List ℕ) → Command
 
--- a word that names a file: it isn't empty and doesn't begin with `-`
-abbrev pub IsFileWord : List ℕ → Type 0
-IsFileWord [] = ⊥
-IsFileWord (byte ∷ bytes) = byte ≢ 45
+-- the file that a command reads
+abbrev pub file_of : Command → List ℕ
+file_of (Run file) = file
+file_of (Emit name file) = file
 
--- the words ask for this command
+-- The words of the parts ----------------------------------------------------------------------------------------------
+
+-- a word that names a file among options, or is the value of an option: it isn't empty, and is `-` or doesn't begin with `-`
+abbrev pub IsPlainWord : List ℕ → Type 0
+IsPlainWord [] = ⊥
+IsPlainWord (byte ∷ []) = Unit {0}
+IsPlainWord (byte ∷ next ∷ bytes) = byte ≢ 45
+
+-- what may stand right behind an option of one letter in the same word: it isn't empty, and doesn't begin with `=`
+abbrev pub IsJoined : List ℕ → Type 0
+IsJoined [] = ⊥
+IsJoined (byte ∷ bytes) = byte ≢ 61
+
+-- the options that have a value
+abbrev pub value_options : List (List ℕ)
+value_options = codes "-o" ∷ []
+
+-- an option that is `-` and one letter
+abbrev pub IsShort : List ℕ → Type 0
+IsShort option = (letter : ℕ) × (option ≡ 45 ∷ letter ∷ [])
+
+-- what one or two words give
+pub data Part : Type 0 where
+  -- the name of a file
+  File : (name : List ℕ) → Part
+  -- an option with its value
+  Given : (option value : List ℕ) → Part
+
+-- the words that give an option this value: `-o NAME`, `-o=NAME`, and `-oNAME` where the option has one letter
+abbrev pub GivesValue : (option value : List ℕ) → List (List ℕ) → Type 0
+GivesValue option value words =
+    ((words ≡ option ∷ value ∷ []) × IsPlainWord value)
+    ⊎ (words ≡ (option ++ codes "=" ++ value) ∷ [])
+    ⊎ ((words ≡ (option ++ value) ∷ []) × IsShort option × IsJoined value)
+
+-- the words of a part
+abbrev pub IsPart : Part → List (List ℕ) → Type 0
+IsPart (File name) words = (words ≡ name ∷ []) × IsPlainWord name
+IsPart (Given option value) words = Contains value_options option × GivesValue option value words
+
+-- the words are those of the parts, one after another
+abbrev pub AreParts : List Part → List (List ℕ) → Type 0
+AreParts [] words = words ≡ []
+AreParts (part ∷ parts) words = (own : List (List ℕ)) × (rest : List (List ℕ)) × (words ≡ own ++ rest) × IsPart part own × AreParts parts rest
+
+-- the words are those of the parts, and behind them there may stand `--` and more names of files, which aren't empty
+abbrev pub HasParts : List Part → List (List ℕ) → List (List ℕ) → Type 0
+HasParts parts more words =
+    ((more ≡ []) × AreParts parts words)
+    ⊎ ((front : List (List ℕ)) × (words ≡ front ++ codes "--" ∷ more) × AreParts parts front × All (λ name. name ≢ []) more)
+
+-- the files that parts name, in order
+abbrev pub files_in : List Part → List (List ℕ)
+files_in [] = []
+files_in (File name ∷ parts) = name ∷ files_in parts
+files_in (Given option value ∷ parts) = files_in parts
+
+-- the options of parts with their values, in order
+abbrev pub options_in : List Part → List (List ℕ × List ℕ)
+options_in [] = []
+options_in (File name ∷ parts) = options_in parts
+options_in (Given option value ∷ parts) = (option, value) ∷ options_in parts
+
+-- What the words ask for ----------------------------------------------------------------------------------------------
+
+-- words behind a command that give these options and name these files
+abbrev pub Gives : List (List ℕ × List ℕ) → List (List ℕ) → List (List ℕ) → Type 0
+Gives options files words =
+    (parts : List Part) × (more : List (List ℕ))
+    × HasParts parts more words × (options_in parts ≡ options) × (files_in parts ++ more ≡ files)
+
+-- the words ask for this command: `run` has one FILE and no option, and `emit` has one FILE and one `-o`, whose NAME isn't empty
 abbrev pub Reads : List (List ℕ) → Command → Type 0
-Reads words (Run file) = IsFileWord file × (words ≡ codes "run" ∷ file ∷ [])
+Reads words (Run file) = (rest : List (List ℕ)) × (words ≡ codes "run" ∷ rest) × Gives [] (file ∷ []) rest
+Reads words (Emit name file) =
+    (rest : List (List ℕ)) × (words ≡ codes "emit" ∷ rest) × (name ≢ []) × Gives ((codes "-o", name) ∷ []) (file ∷ []) rest
 
 -- the words are those of no command
 abbrev pub HasNoReading : List (List ℕ) → Type 0
 HasNoReading words = (command : Command) → ¬ Reads words command
-
--- whether a word names a file
-abbrev pub is_file_word : List ℕ → Bool
-is_file_word [] = false
-is_file_word (byte ∷ bytes) = not (byte == 45)
-
--- the command that words ask for. That it is the one that `Reads` allows is `command_exactly` of proofs/Reading.antt
-abbrev pub command_of : List (List ℕ) → Option Command
-command_of (word ∷ file ∷ []) = if bytes_eq word (codes "run") && is_file_word file then Some (Run file) else None
-command_of words = None

@@ -8,23 +8,30 @@ ghost use Rattle.sl_outside.specs.Sink.{sink_state};
 ghost use Rattle.sl_tool.specs.Outside.{outside};
 ghost use Rattle.sl_tool.specs.Promise.{Promise};
 
+mod accepting;
+mod building;
+mod emitting;
 mod running;
+mod source;
 mod status;
+mod stepping;
+mod stop;
 mod straight;
 mod telling;
 mod words;
 
+use emitting::emit_file;
 use running::run_file;
 use sl_outside::{Folder, Sink, Source};
 pub use status::Status;
 use std::alloc::Global;
 use telling::{tell_stop, tell_usage};
-use words::file_to_run;
+use words::{Command, read_words};
 
-/// Does what the words after the program's name ask for: `run FILE` reads the file from `folder`, and puts on `out` what its
-/// program prints, a byte at a time. Where the status isn't the exit value of a run, its line is put on `note`; docs/command-line.md
-/// has the statuses, their causes and their lines. The folder is called once, to read FILE. No file is changed, and
-/// `input` isn't read.
+/// Does what the words after the program's name ask for. `run FILE` reads the file from `folder`, and puts on `out` what its
+/// program prints, a byte at a time. `emit -o NAME FILE` reads the file, writes the C of its program under `NAME.c` by one call,
+/// and puts the line `NAME.c B bytes` on `out`, where B is the length of the C. Where the status isn't 0 to 63, its line is put on
+/// `note`; docs/command-line.md has the statuses, their causes and their lines. `input` isn't read.
 ///
 /// The one clause, `Promise`, has a field for each promise.
 pub fn slang<F: Folder, S: Source, K: Sink, N: Sink>(
@@ -48,12 +55,18 @@ pub fn slang<F: Folder, S: Source, K: Sink, N: Sink>(
         (sink_state (N.held note.new) (N.faults note.new) (N.calls note.new)))
         result }
 {
-    let Some(file) = file_to_run(words.as_slice()) else {
+    let Some(command) = read_words(words.as_slice()) else {
         return tell_usage(note);
     };
-    match run_file(alloc, file, folder, out) {
-        Ok(value) => Status::Exit(value),
-        Err(stop) => tell_stop(alloc, file, stop, note),
+    match command {
+        Command::Run { file } => match run_file(alloc, file, folder, out) {
+            Ok(value) => Status::Exit(value),
+            Err(stop) => tell_stop(alloc, file, stop, note),
+        },
+        Command::Emit { name, file } => match emit_file(alloc, name, file, folder, out) {
+            Ok(()) => Status::Exit(0),
+            Err(stop) => tell_stop(alloc, file, stop, note),
+        },
     }
 }
 

@@ -1,57 +1,20 @@
-// `run FILE`: a straight file is read, and what its program prints is put.
-ghost use Rattle.std.specs.Prelude.{◌≡◌, ◌++◌, ◌∷◌, []};
+// `run FILE`: a straight file is read, and the tree of its C is stepped.
+ghost use Rattle.std.specs.Prelude.{◌≡◌};
 ghost use Rattle.sl_outside.specs.Counts.{HasCause, one_more};
-ghost use Rattle.sl_outside.specs.Sink.{Prints, sink_state};
-ghost use Rattle.sl_tool.specs.Straight.{ended};
+ghost use Rattle.sl_outside.specs.Sink.{sink_state};
 ghost use Rattle.sl_tool.specs.Parts.{RunsFile, is_folder_fault};
 
-use crate::straight::read_straight;
-use sl_outside::{Failed, Folder, Refused, Sink};
-use sl_text::{Mem, Row};
+use crate::building::build_tree;
+use crate::source::read_program;
+use crate::stepping::{Unfinished, run_tree};
+use crate::stop::Stop;
+use sl_outside::{Folder, Sink};
 use std::alloc::Global;
-use thiserror::Error;
 
-/// Why a file was not run to its end.
-#[derive(Clone, Copy, Debug, PartialEq, Eq, Error)]
-pub enum Stop {
-    #[error("no file")]
-    NoFile,
-    #[error("not built")]
-    NotBuilt,
-    #[error("folder fault")]
-    Folder,
-    #[error("output fault")]
-    Sink,
-    #[error("no memory")]
-    Mem,
-}
+/// The turns that a run has where no option says it.
+const DEFAULT_TURNS: u64 = 1_000_000_000;
 
-impl From<Refused> for Stop {
-    ghost use Rattle.std.specs.Prelude.{◌≡◌};
-    ghost use Rattle.sl_tool.specs.Stopping.{stop_of};
-
-    ghost from_gives = { λ refused stop. stop ≡ stop_of refused };
-
-    fn from(refused: Refused) -> Stop {
-        match refused {
-            Refused::Failed => Stop::Folder,
-            Refused::Mem => Stop::Mem,
-        }
-    }
-}
-
-impl From<Mem> for Stop {
-    ghost use Rattle.std.specs.Prelude.{◌≡◌};
-    ghost use Rattle.sl_tool.specs.declared.running.Stop.TheVariants as stop;
-
-    ghost from_gives = { λ _ e. e ≡ stop.Mem };
-
-    fn from(_: Mem) -> Stop {
-        Stop::Mem
-    }
-}
-
-/// Reads the file, prints what its program prints, and gives the program's value.
+/// Reads the file, steps the tree of its C, and gives the program's value.
 pub fn run_file<F: Folder, K: Sink>(
     alloc: Global,
     file: &str,
@@ -66,46 +29,12 @@ pub fn run_file<F: Folder, K: Sink>(
     ensures cause { HasCause (is_folder_fault result) (F.faults folder.old) (F.faults folder.new) }
     ensures counted { F.calls folder.new ≡ one_more (F.calls folder.old) }
 {
-    let Some(bytes) = folder.read(alloc, file)? else {
-        return Err(Stop::NoFile);
-    };
-    let Some(program) = read_straight(alloc, bytes.as_slice())? else {
-        return Err(Stop::NotBuilt);
-    };
-    match print_texts(out, program.texts.as_slice()) {
-        Ok(()) => Ok(program.value),
-        Err(_) => Err(Stop::Sink),
+    let program = read_program(alloc, file, folder)?;
+    let tree = build_tree(alloc, &program)?;
+    match run_tree(&tree, DEFAULT_TURNS, out) {
+        Ok(value) => Ok(value as u8),
+        Err(Unfinished::Sink) => Err(Stop::Sink),
+        Err(Unfinished::TurnsSpent) => unreachable!(),
+        Err(Unfinished::Stuck) => unreachable!(),
     }
-}
-
-fn print_texts<K: Sink>(out: &mut K, texts: &[Row<u8>]) -> Result<(), Failed>
-    ensures { Prints (ended texts.now)
-        (sink_state (K.held out.old) (K.faults out.old) (K.calls out.old))
-        (sink_state (K.held out.new) (K.faults out.new) (K.calls out.new)) result }
-{
-    for text in texts {
-        print_text(out, text.as_slice())?;
-    }
-    Ok(())
-}
-
-fn print_text<K: Sink>(out: &mut K, text: &[u8]) -> Result<(), Failed>
-    ensures { Prints (text.now ++ 10 ∷ [])
-        (sink_state (K.held out.old) (K.faults out.old) (K.calls out.old))
-        (sink_state (K.held out.new) (K.faults out.new) (K.calls out.new)) result }
-{
-    put_bytes(out, text)?;
-    out.put(b"\n")
-}
-
-/// Puts each byte as a piece of its own, as the run of a program does.
-fn put_bytes<K: Sink>(out: &mut K, bytes: &[u8]) -> Result<(), Failed>
-    ensures { Prints bytes.now
-        (sink_state (K.held out.old) (K.faults out.old) (K.calls out.old))
-        (sink_state (K.held out.new) (K.faults out.new) (K.calls out.new)) result }
-{
-    for byte in bytes {
-        out.put(&[*byte])?;
-    }
-    Ok(())
 }

@@ -6,8 +6,9 @@ ghost use Rattle.sl_outside.specs.Sink.{Tried, sink_state};
 ghost use Rattle.sl_tool.specs.Parts.{Tells, TellsStop};
 
 use crate::Status;
-use crate::running::Stop;
+use crate::stop::Stop;
 use sl_outside::Sink;
+use sl_text::Rule;
 use std::alloc::Global;
 
 const USAGE: &[u8] = b"usage: check, emit, run, step, stack or sample\n";
@@ -60,6 +61,7 @@ pub fn tell_stop<N: Sink>(alloc: Global, file: &str, stop: Stop, note: &mut N) -
 {
     match stop {
         Stop::NoFile => tell_no_file(alloc, file, note),
+        Stop::Broken(rule) => tell_broken(alloc, file, rule, note),
         Stop::NotBuilt => try_line(note, Status::NotBuilt, NOT_BUILT),
         Stop::Folder => try_line(note, Status::FolderFault, FOLDER_FAULT),
         Stop::Sink => try_line(note, Status::SinkFault, OUTPUT_FAULT),
@@ -74,6 +76,18 @@ fn tell_no_file<N: Sink>(alloc: Global, file: &str, note: &mut N) -> Status
 {
     match format!(in alloc; "no file {file}\n") {
         Ok(line) => put_line(note, Status::NoFile, line.as_bytes()),
+        Err(_) => try_line(note, Status::Memory, NO_MEMORY),
+    }
+}
+
+/// Tells that a source breaks a rule, at its first byte.
+fn tell_broken<N: Sink>(alloc: Global, file: &str, rule: Rule, note: &mut N) -> Status
+    ensures { TellsStop file.now (Stop.Broken rule)
+        (sink_state (N.held note.old) (N.faults note.old) (N.calls note.old))
+        (sink_state (N.held note.new) (N.faults note.new) (N.calls note.new)) result }
+{
+    match format!(in alloc; "{file}:1:1: {rule}\n") {
+        Ok(line) => put_line(note, Status::Broken, line.as_bytes()),
         Err(_) => try_line(note, Status::Memory, NO_MEMORY),
     }
 }

@@ -1,25 +1,227 @@
-ghost use Rattle.std.specs.Prelude.{◌≡◌, Some, None, MatchOption, map, string_bytes};
-ghost use Rattle.sl_tool.specs.Words.{Run, command_of, is_file_word};
+// How the words after the program's name are read.
+ghost use Rattle.std.specs.Prelude.{◌≡◌, ℕ, List, [], ◌∷◌, map, option_map, string_bytes};
+ghost use Rattle.std.specs.Option.{option_and_then};
+ghost use Rattle.sl_tool.specs.WordsReading.{command_of, command_seen, emit_given, emit_words, found_seen, gathered, is_plain, kind_behind, kind_of, kind_seen, nothing, read_on, run_given, run_words, together, with_file, with_name};
+ghost use Rattle.sl_tool.specs.declared.words.Place.TheVariants.{Among};
 
-/// The file that the words ask to run: `run FILE`, where FILE isn't empty and doesn't begin with `-`.
-pub fn file_to_run(words: &[String]) -> Option<&str>
-    ensures { MatchOption result (command_of (map string_bytes words.now) ≡ None)
-        (λ file. command_of (map string_bytes words.now) ≡ Some (Run file.now)) }
+/// What the words ask for.
+#[derive(Clone, Copy, Debug, PartialEq, Eq)]
+pub enum Command<'a> {
+    /// `run FILE`: the program in this file is run.
+    Run { file: &'a str },
+    /// `emit -o NAME FILE`: the C of the program in this file is written under NAME.c.
+    Emit { name: &'a str, file: &'a str },
+}
+
+/// Where a word stands behind the command.
+#[derive(Clone, Copy)]
+enum Place {
+    /// Among options and files.
+    Among,
+    /// Right behind `-o`, which waits for its value.
+    BehindOption,
+    /// Behind `--`, where each word names a file.
+    BehindDashes,
+}
+
+/// What a word is among options and files.
+#[derive(Clone, Copy)]
+enum Kind<'a> {
+    /// It names a file.
+    File,
+    /// It is `-o`, which waits for its value.
+    Waits,
+    /// It gives `-o` this value.
+    Value(&'a str),
+    /// It is `--`.
+    Dashes,
+    /// No command has it.
+    Other,
+}
+
+/// What the words so far gave, and where the next one stands.
+#[derive(Clone, Copy)]
+struct Found<'a> {
+    place: Place,
+    name: Option<&'a str>,
+    file: Option<&'a str>,
+}
+
+/// The command that the words ask for: `run` with one FILE, or `emit` with one FILE and one option `-o NAME`, in any order.
+/// docs/command-line.md says how options and files are told apart.
+pub fn read_words(words: &[String]) -> Option<Command<'_>>
+    ensures { command_of (map string_bytes words.now) ≡ option_map command_seen result }
 {
     match words {
-        [command, file] if command.as_str() == "run" && is_file_word(file.as_str()) => {
-            Some(file.as_str())
-        }
+        [command, rest @ ..] if command.as_str() == "run" => read_run(rest),
+        [command, rest @ ..] if command.as_str() == "emit" => read_emit(rest),
         _ => None,
     }
 }
 
-/// Whether a word names a file.
-fn is_file_word(word: &str) -> bool
-    ensures { result ≡ is_file_word word.now }
+/// The command of the words behind `run`.
+fn read_run(words: &[String]) -> Option<Command<'_>>
+    ensures { run_words (map string_bytes words.now) ≡ option_map command_seen result }
+{
+    run_given(found_in(words)?)
+}
+
+/// `run` of the file that was found, if no name was.
+fn run_given(found: Found<'_>) -> Option<Command<'_>>
+    ensures { run_given (found_seen found.entry).options (found_seen found.entry).files ≡ option_map command_seen result }
+{
+    match (found.name, found.file) {
+        (None, Some(file)) => Some(Command::Run { file }),
+        _ => None,
+    }
+}
+
+/// The command of the words behind `emit`.
+fn read_emit(words: &[String]) -> Option<Command<'_>>
+    ensures { emit_words (map string_bytes words.now) ≡ option_map command_seen result }
+{
+    emit_given(found_in(words)?)
+}
+
+/// `emit` of the file that was found under the name that was found, if that isn't empty.
+fn emit_given(found: Found<'_>) -> Option<Command<'_>>
+    ensures { emit_given (found_seen found.entry).options (found_seen found.entry).files ≡ option_map command_seen result }
+{
+    match (found.name, found.file) {
+        (Some(name), Some(file)) if !name.is_empty() => Some(Command::Emit { name, file }),
+        _ => None,
+    }
+}
+
+/// What the words behind a command give, if they are options and files, and no more than one of each.
+fn found_in(words: &[String]) -> Option<Found<'_>>
+    ensures { together nothing (gathered Among (map string_bytes words.now)) ≡ option_map found_seen result }
+{
+    let mut found = Found {
+        place: Place::Among,
+        name: None,
+        file: None,
+    };
+    for word in words {
+        found = found.with_word(word.as_str())?;
+    }
+    found.whole()
+}
+
+impl<'a> Found<'a> {
+    /// What was found, if no option waits for its value.
+    fn whole(self) -> Option<Found<'a>>
+        ensures { read_on self.entry [] ≡ option_map found_seen result }
+    {
+        match self.place {
+            Place::BehindOption => None,
+            _ => Some(self),
+        }
+    }
+
+    /// What was found with one more word.
+    fn with_word(self, word: &'a str) -> Option<Found<'a>>
+        ensures { (words : List (List ℕ)) → read_on self.entry (word.now ∷ words) ≡ option_and_then (λ found. read_on found words) result }
+    {
+        match self.place {
+            Place::Among => self.with_part(word),
+            Place::BehindOption if is_plain(word) => self.with_name(word),
+            Place::BehindDashes if !word.is_empty() => self.with_file(word),
+            _ => None,
+        }
+    }
+
+    /// What was found with one more word among options and files.
+    fn with_part(self, word: &'a str) -> Option<Found<'a>>
+        requires { self.place ≡ Among }
+        ensures { (words : List (List ℕ)) → read_on self.entry (word.now ∷ words) ≡ option_and_then (λ found. read_on found words) result }
+    {
+        match kind_of(word) {
+            Kind::File => self.with_file(word),
+            Kind::Waits => Some(self.at(Place::BehindOption)),
+            Kind::Value(name) => self.with_name(name),
+            Kind::Dashes => Some(self.at(Place::BehindDashes)),
+            Kind::Other => None,
+        }
+    }
+
+    /// What was found, where the next word stands at this place.
+    fn at(self, place: Place) -> Found<'a>
+        ensures place { result.place ≡ place }
+        ensures found { found_seen result ≡ found_seen self.entry }
+    {
+        Found {
+            place,
+            name: self.name,
+            file: self.file,
+        }
+    }
+
+    /// What was found with this name, if none was.
+    fn with_name(self, name: &'a str) -> Option<Found<'a>>
+        ensures { (words : List (List ℕ)) → together (found_seen self.entry) (option_map (with_name name.now) (gathered Among words))
+            ≡ option_and_then (λ found. read_on found words) result }
+    {
+        match self.name {
+            Some(_) => None,
+            None => Some(Found {
+                place: Place::Among,
+                name: Some(name),
+                file: self.file,
+            }),
+        }
+    }
+
+    /// What was found with this file, if none was.
+    fn with_file(self, file: &'a str) -> Option<Found<'a>>
+        ensures { (words : List (List ℕ)) → together (found_seen self.entry) (option_map (with_file file.now) (gathered self.entry.place words))
+            ≡ option_and_then (λ found. read_on found words) result }
+    {
+        match self.file {
+            Some(_) => None,
+            None => Some(Found {
+                place: self.place,
+                name: self.name,
+                file: Some(file),
+            }),
+        }
+    }
+}
+
+/// What a word is among options and files.
+fn kind_of(word: &str) -> Kind<'_>
+    ensures { kind_of word.now ≡ kind_seen result }
+{
+    if is_plain(word) {
+        return Kind::File;
+    }
+    if word == "--" {
+        return Kind::Dashes;
+    }
+    match word.strip_prefix("-o") {
+        Some(rest) => kind_behind(rest),
+        None => Kind::Other,
+    }
+}
+
+/// What a word is that begins with `-o`, by what stands behind that.
+fn kind_behind(rest: &str) -> Kind<'_>
+    ensures { kind_behind rest.now ≡ kind_seen result }
+{
+    if rest.is_empty() {
+        Kind::Waits
+    } else {
+        Kind::Value(rest.strip_prefix('=').unwrap_or(rest))
+    }
+}
+
+/// Whether a word is plain: it isn't empty, and is `-` or doesn't begin with `-`.
+fn is_plain(word: &str) -> bool
+    ensures { result ≡ is_plain word.now }
 {
     match word.as_bytes() {
         [] => false,
+        [_] => true,
         [first, ..] => *first != b'-',
     }
 }

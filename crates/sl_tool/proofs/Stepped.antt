@@ -1,0 +1,5 @@
+pub mod Parts
+pub mod Calls
+pub mod Bodies
+pub mod Functions
+pub mod Runs

@@ -1,0 +1,145 @@
+-- How the command that words ask for is found, word by word.
+use Rattle.std.specs.Prelude.{ℕ, List, [], ◌∷◌, ◌++◌, Bool, true, false, ◌==◌, not, if◌then◌else◌, Option, Some, None, option_map, map, drop, codes}
+use Rattle.std.specs.List.{starts_with}
+use Rattle.std.specs.Option.{option_and_then, option_to_list}
+use Rattle.std.specs.Str.{bytes_eq}
+use Rattle.sl_tool.specs.declared.words.Command as declared
+use Rattle.sl_tool.specs.declared.words.Command.TheVariants as variant
+use Rattle.sl_tool.specs.declared.words.Found as found
+use Rattle.sl_tool.specs.declared.words.Kind as kind
+use Rattle.sl_tool.specs.declared.words.Kind.TheVariants as of_kind
+use Rattle.sl_tool.specs.declared.words.Place.{Place}
+use Rattle.sl_tool.specs.declared.words.Place.TheVariants.{Among, BehindOption, BehindDashes}
+use Rattle.sl_tool.specs.Words.{Command, Run, Emit}
+
+-- How a command is found ----------------------------------------------------------------------------------------------
+
+-- whether a word is plain
+abbrev pub is_plain : List ℕ → Bool
+is_plain [] = false
+is_plain (byte ∷ []) = true
+is_plain (byte ∷ next ∷ bytes) = not (byte == 45)
+
+-- what a word is that stands neither behind an option that waits for its value nor behind `--`
+pub data Kind : Type 0 where
+  -- it names a file
+  IsFile : Kind
+  -- it is `-o`, which waits for its value
+  Waits : Kind
+  -- it gives `-o` this value
+  HasValue : (value : List ℕ) → Kind
+  -- it is `--`
+  IsDashes : Kind
+  -- no command has it
+  IsOther : Kind
+
+-- the kind of a word that begins with `-o`, by what stands behind that
+abbrev pub kind_behind : List ℕ → Kind
+kind_behind [] = Waits
+kind_behind (byte ∷ bytes) = HasValue (if byte == 61 then bytes else byte ∷ bytes)
+
+-- the kind of a word
+abbrev pub kind_of : List ℕ → Kind
+kind_of word =
+    if is_plain word then IsFile else
+    if bytes_eq word (codes "--") then IsDashes else
+    if starts_with ◌==◌ word (codes "-o") then kind_behind (drop 2 word) else IsOther
+
+-- the options and the files of some words
+pub record Gathered : Type 0 where
+  pub options : List (List ℕ × List ℕ)
+  pub files : List (List ℕ)
+
+-- no option and no file
+abbrev pub nothing : Gathered
+nothing = record { options = []; files = [] }
+
+-- one more file, at the front
+abbrev pub with_file : List ℕ → Gathered → Gathered
+with_file file gathered = record gathered { files = file ∷ gathered.files }
+
+-- one more `-o` with this value, at the front
+abbrev pub with_name : List ℕ → Gathered → Gathered
+with_name name gathered = record gathered { options = (codes "-o", name) ∷ gathered.options }
+
+-- what words give that stand at this place behind a command, if they can stand there
+abbrev pub gathered : Place → List (List ℕ) → Option Gathered
+gathered Among [] = Some nothing
+gathered Among (word ∷ words) =
+    elim (kind_of word) [
+      | IsFile ↦ option_map (with_file word) (gathered Among words)
+      | Waits ↦ gathered BehindOption words
+      | HasValue value ↦ option_map (with_name value) (gathered Among words)
+      | IsDashes ↦ gathered BehindDashes words
+      | IsOther ↦ None
+    ]
+gathered BehindOption [] = None
+gathered BehindOption (word ∷ words) = if is_plain word then option_map (with_name word) (gathered Among words) else None
+gathered BehindDashes [] = Some nothing
+gathered BehindDashes ([] ∷ words) = None
+gathered BehindDashes ((byte ∷ bytes) ∷ words) = option_map (with_file (byte ∷ bytes)) (gathered BehindDashes words)
+
+-- `run` of the one file, where there is no option
+abbrev pub run_given : List (List ℕ × List ℕ) → List (List ℕ) → Option Command
+run_given [] (file ∷ []) = Some (Run file)
+run_given options files = None
+
+-- `emit` of this file under the value of an option, if that is `-o` and the value isn't empty
+abbrev pub emit_under : (option name file : List ℕ) → Option Command
+emit_under option [] file = None
+emit_under option (byte ∷ bytes) file = if bytes_eq option (codes "-o") then Some (Emit (byte ∷ bytes) file) else None
+
+-- `emit` of the one file under the value of the one option
+abbrev pub emit_given : List (List ℕ × List ℕ) → List (List ℕ) → Option Command
+emit_given (option ∷ []) (file ∷ []) = emit_under option.0 option.1 file
+emit_given options files = None
+
+-- the command of the words behind `run`
+abbrev pub run_words : List (List ℕ) → Option Command
+run_words words = option_and_then (λ found. run_given found.options found.files) (gathered Among words)
+
+-- the command of the words behind `emit`
+abbrev pub emit_words : List (List ℕ) → Option Command
+emit_words words = option_and_then (λ found. emit_given found.options found.files) (gathered Among words)
+
+-- the command that words ask for. That it is the one that `Reads` allows is `command_of_reading` and `reading_of_command` of
+-- proofs/Reading.antt
+abbrev pub command_of : List (List ℕ) → Option Command
+command_of [] = None
+command_of (word ∷ words) = if bytes_eq word (codes "run") then run_words words else if bytes_eq word (codes "emit") then emit_words words else None
+
+-- How the code finds it -----------------------------------------------------------------------------------------------
+
+-- the command as the code has it
+abbrev pub command_seen : declared.Command → Command
+command_seen (variant.Run file) = Run file.now
+command_seen (variant.Emit name file) = Emit name.now file.now
+
+-- the kind of a word as the code has it
+abbrev pub kind_seen : kind.Kind → Kind
+kind_seen of_kind.File = IsFile
+kind_seen of_kind.Waits = Waits
+kind_seen (of_kind.Value value) = HasValue value.now
+kind_seen of_kind.Dashes = IsDashes
+kind_seen of_kind.Other = IsOther
+
+-- what was found so far as the code has it
+abbrev pub found_seen : found.Found → Gathered
+found_seen found = record {
+  options = map (λ name. (codes "-o", name.now)) (option_to_list found.name);
+  files = map (λ file. file.now) (option_to_list found.file);
+}
+
+-- options and files, where there is at most one of each
+abbrev pub sole : List (List ℕ × List ℕ) → List (List ℕ) → Option Gathered
+sole (option ∷ other ∷ options) files = None
+sole options (file ∷ other ∷ files) = None
+sole options files = Some (record { options = options; files = files })
+
+-- what was found before, together with what is found behind it, where there is at most one of each
+abbrev pub together : Gathered → Option Gathered → Option Gathered
+together before behind = option_and_then (λ gathered. sole (before.options ++ gathered.options) (before.files ++ gathered.files)) behind
+
+-- what was found, together with what the words behind it give, where there is at most one of each
+abbrev pub read_on : found.Found → List (List ℕ) → Option Gathered
+read_on found words = together (found_seen found) (gathered found.place words)
