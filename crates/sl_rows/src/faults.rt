@@ -1,0 +1,139 @@
+// Each call of the folder and of the outputs refused in turn, and what then stands.
+use crate::called::{CALM, Failing, NONE, app, call};
+use std::alloc::Global;
+use std::test::Fail;
+
+const USAGE: &[u8] = b"usage: check, emit, run, step, stack or sample\n";
+
+const FOLDER: &[u8] = b"folder fault\n";
+
+const OUTPUT: &[u8] = b"output fault\n";
+
+const BODY: &str = "    println(\"hi\")\n    return 7\n";
+
+/// What `emit` writes of this body: the first six lines, the tokens of the tree, and the last line.
+const WRITTEN: &str = "#include <stdint.h>
+#include <stdio.h>
+#include <stdlib.h>
+static inline void sl_put(int64_t b) { putchar((int)b); }
+static inline int64_t sl_get(void) { int c = getchar(); return c == EOF ? -1 : c; }
+static inline void sl_halt(int64_t k, int64_t f, int64_t n) { fflush(stdout); fprintf(stderr, \"halt %d %d:%d\\n\", (int)k, (int)f, (int)n); exit(66); }
+static int64_t sl_main(void);
+static int64_t m_X_dmain(void);
+static int64_t sl_main(void) {
+    m_X_dmain();
+    return INT64_C(7);
+}
+
+static int64_t m_X_dmain(void) {
+    sl_put(INT64_C(104));
+    sl_put(INT64_C(105));
+    sl_put(INT64_C(10));
+    return INT64_C(7);
+}
+int main(void) { return (int)sl_main(); }
+";
+
+/// What fails; and then the status, what is on `out` and what is on `note`.
+type Fault = (Failing, u8, &'static [u8], &'static [u8]);
+
+const RUN: [Fault; 11] = [
+    (CALM, 7, b"hi\n", b""),
+    ([&[1], NONE, NONE], 73, b"", FOLDER),
+    ([&[1], NONE, &[1]], 73, b"", b""),
+    ([&[2], NONE, NONE], 7, b"hi\n", b""),
+    ([NONE, &[1], NONE], 75, b"", OUTPUT),
+    ([NONE, &[2], NONE], 75, b"h", OUTPUT),
+    ([NONE, &[3], NONE], 75, b"hi", OUTPUT),
+    ([NONE, &[4], NONE], 7, b"hi\n", b""),
+    ([NONE, &[2], &[1]], 75, b"h", b""),
+    ([NONE, &[2], &[2]], 75, b"h", OUTPUT),
+    ([NONE, NONE, &[1]], 7, b"hi\n", b""),
+];
+
+#[test]
+fn each_call_of_run_refused(rt: HostRuntime) -> Result<(), Fail> {
+    let alloc = rt.alloc();
+    let source = app(alloc, BODY)?;
+    let files: [(&str, &[u8]); 1] = [("a.scala", source.as_bytes())];
+    for (what, code, out, note) in &RUN {
+        let mut called = call(alloc, &["run", "a.scala"], &files, *what)?;
+        assert!(rt; called.told(*code, out, note));
+        assert!(rt; called.holds(alloc, "a.scala", Some(source.as_bytes()))?);
+    }
+    Ok(())
+}
+
+/// The line of `emit` on `out`.
+fn line(alloc: Global) -> Result<String, Fail> {
+    let length = WRITTEN.len();
+    Ok(format!(in alloc; "q.c {length} bytes\n")?)
+}
+
+/// What fails in `emit`; and then the status, whether `out` got the line, what is on `note`, and whether `q.c` was written.
+type Emitted = (Failing, u8, bool, &'static [u8], bool);
+
+const EMIT: [Emitted; 10] = [
+    (CALM, 0, true, b"", true),
+    ([&[1], NONE, NONE], 73, false, FOLDER, false),
+    ([&[2], NONE, NONE], 73, false, FOLDER, false),
+    ([&[2], NONE, &[1]], 73, false, b"", false),
+    ([&[3], NONE, NONE], 0, true, b"", true),
+    ([NONE, &[1], NONE], 75, false, OUTPUT, true),
+    ([NONE, &[1], &[1]], 75, false, b"", true),
+    ([NONE, &[2], NONE], 0, true, b"", true),
+    ([NONE, NONE, &[1]], 0, true, b"", true),
+    ([&[1, 2], &[1], &[1]], 73, false, b"", false),
+];
+
+#[test]
+fn each_call_of_emit_refused(rt: HostRuntime) -> Result<(), Fail> {
+    let alloc = rt.alloc();
+    let source = app(alloc, BODY)?;
+    let line = line(alloc)?;
+    let files: [(&str, &[u8]); 2] = [("a.scala", source.as_bytes()), ("b", b"kept")];
+    for (what, code, told, note, written) in &EMIT {
+        let mut called = call(alloc, &["emit", "-o", "q", "a.scala"], &files, *what)?;
+        let out = if *told { line.as_bytes() } else { b"" };
+        assert!(rt; called.told(*code, out, note));
+        assert!(rt; called.holds(alloc, "q.c", written.then_some(WRITTEN.as_bytes()))?);
+        assert!(rt; called.holds(alloc, "a.scala", Some(source.as_bytes()))?);
+        assert!(rt; called.holds(alloc, "b", Some(b"kept"))?);
+    }
+    Ok(())
+}
+
+/// Words that are refused with a line, and that line.
+const REFUSED: [(&[&str], u8, &[u8]); 5] = [
+    (&["run"], 64, USAGE),
+    (&["run", "missing"], 72, b"no file missing\n"),
+    (&["run", "empty"], 65, b"empty:1:1: L1\n"),
+    (&["emit", "-oq", "missing"], 72, b"no file missing\n"),
+    (&["emit", "-oq", "empty"], 65, b"empty:1:1: L1\n"),
+];
+
+#[test]
+fn each_line_refused(rt: HostRuntime) -> Result<(), Fail> {
+    let alloc = rt.alloc();
+    let files: [(&str, &[u8]); 1] = [("empty", b"")];
+    for (words, code, line) in &REFUSED {
+        let told = call(alloc, words, &files, CALM)?;
+        assert!(rt; told.told(*code, b"", line));
+        let refused = call(alloc, words, &files, [NONE, NONE, &[1]])?;
+        assert!(rt; refused.told(75, b"", OUTPUT));
+        let twice = call(alloc, words, &files, [NONE, NONE, &[1, 2]])?;
+        assert!(rt; twice.told(75, b"", b""));
+    }
+    Ok(())
+}
+
+#[test]
+fn a_line_that_is_only_tried_changes_nothing(rt: HostRuntime) -> Result<(), Fail> {
+    let alloc = rt.alloc();
+    let files: [(&str, &[u8]); 1] = [("other", b"// #Sireum\n")];
+    let told = call(alloc, &["run", "other"], &files, CALM)?;
+    assert!(rt; told.told(77, b"", b"not built\n"));
+    let refused = call(alloc, &["run", "other"], &files, [NONE, NONE, &[1]])?;
+    assert!(rt; refused.told(77, b"", b""));
+    Ok(())
+}
