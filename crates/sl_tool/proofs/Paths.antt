@@ -307,76 +307,59 @@ module _ (words : List (List ℕ)) (folder folder' : FolderState) (source : Sour
               refl,
         )
 
-    -- the file isn't there
-    no_file_promise : (status : Status) → Finds folder.files (file_of command) None → Asked folder folder' → out' ≡ out → HasCause false folder.faults folder'.faults → Tells (no_file_line (file_of command)) NoFile note note' status → Promise words before after status
-    no_file_promise status finds asked same cause tells =
-        let files = files_of folder.files None in
+    -- nothing was put on `out`, and the line of a status was told on `note`, which is what is answered
+    told_promise : (files : Contents) (meant status : Status) (line : List ℕ) → IsTold folder.files files → answer_of words files (input_of source.left) ≡ rejected meant line files (input_of source.left) → IsLineOf words files meant line → (Put line note note' (Ok tt) → Noted words files before after meant) → Cause words files (input_of source.left) before after meant → (Rose note.faults note'.faults → Excused before after meant) → Emits words files before after meant → Does files (answer_of words files (input_of source.left)) command meant → Asked folder folder' → out' ≡ out → HasCause false folder.faults folder'.faults → Tells line meant note note' status → Promise words before after status
+    told_promise files meant status line is_told e is_line noted caused excuse emits does asked same cause tells =
         let input = input_of source.left in
-        let is_told = files_told folder.files None in
         let is_left = input_told source.left in
-        let found = files_found folder.files (file_of command) None finds in
-        let line = no_file_line (file_of command) in
-        let e = answer_no_file words files input command is_read found in
-        let ends = tell_ends NoFile status line note note' tells in
+        let answer = answer_of words files input in
+        let ends = tell_ends meant status line note note' tells in
         let still : out'.held ≡ out.held = ap (λ s. s.held) same in
         let sink : out'.faults ≡ out.faults = ap (λ s. s.faults) same in
-        let is_line : IsLineOf words files NoFile line = (command, reads, found, refl) in
-        let did = λ (s : Status) (is : s ≡ NoFile) (put : Put line note note' (Ok tt)). did_reject files input NoFile s line is_told is_left asked.unchanged e is still put in (
+        let did = λ (s : Status) (is : s ≡ meant) (put : Put line note note' (Ok tt)). did_reject files input meant s line is_told is_left asked.unchanged e is still put in (
           files,
           input,
           is_told,
           is_left,
           keeps words files input before after status
-              (λ calm. let whole = tell_calm NoFile status line note note' tells calm.note in inl (did status whole.1 whole.0))
-              (finished_told files input NoFile status line (did NoFile refl) tells)
-              (by_end (λ s. Emits words files before after s) NoFile status ends (nothing_emitted files NoFile (λ value e. absurd (cc e)) (λ e. absurd (cc e))) (λ _. calm_emitted files sink))
-              (by_end (λ s. Cause words files input before after s) NoFile status ends (command, reads, found) inr)
-              (subst (λ meant. Settles before after meant status) (sym (ap (λ answer. answer.status) e))
-              (by_end (λ s. Settles before after NoFile s) NoFile status ends (inl (inl refl)) (λ rose. inr (inr rose))))
-              (hides_note status (cause.stayed refl) sink (note_told NoFile status ends))
-              (grows cause.no_lower (omega arith) (tell_grows NoFile status line note note' tells))
+              (λ calm. let whole = tell_calm meant status line note note' tells calm.note in inl (did status whole.1 whole.0))
+              (finished_told files input meant status line (did meant refl) tells)
+              (by_end (λ s. Emits words files before after s) meant status ends emits (λ _. calm_emitted files sink))
+              (by_end (λ s. Cause words files input before after s) meant status ends caused inr)
+              (subst (λ other. Settles before after other status) (sym (ap (λ answer. answer.status) e))
+              (by_end (λ s. Settles before after meant s) meant status ends (inl (inl refl)) (λ rose. inr (excuse rose))))
+              (hides_note status (cause.stayed refl) sink (note_told meant status ends))
+              (grows cause.no_lower (omega arith) (tell_grows meant status line note note' tells))
               (stands_still files input is_left still)
-              (acts files (answer_of words files input) status
-              (by_end (λ s. Does files (answer_of words files input) command s) NoFile status ends (does_no_file asked same files (answer_of words files input) command) (does_note_fault asked same files (answer_of words files input) command)))
-              (noted_told files NoFile status line is_line (λ put. (line, is_line, put)) tells)
+              (acts files answer status (by_end (λ s. Does files answer command s) meant status ends does (does_note_fault asked same files answer command)))
+              (noted_told files meant status line is_line noted tells)
               refl,
         )
+
+    -- the file isn't there
+    no_file_promise : (status : Status) → Finds folder.files (file_of command) None → Asked folder folder' → out' ≡ out → HasCause false folder.faults folder'.faults → Tells (no_file_line (file_of command)) NoFile note note' status → Promise words before after status
+    no_file_promise status finds asked same cause tells =
+        let files = files_of folder.files None in
+        let input = input_of source.left in
+        let found = files_found folder.files (file_of command) None finds in
+        let line = no_file_line (file_of command) in
+        let is_line : IsLineOf words files NoFile line = (command, reads, found, refl) in
+        told_promise files NoFile status line (files_told folder.files None) (answer_no_file words files input command is_read found) is_line (λ put. (line, is_line, put))
+        (command, reads, found) inr (nothing_emitted files NoFile (λ value e. absurd (cc e)) (λ e. absurd (cc e)))
+        (does_no_file asked same files (answer_of words files input) command) asked same cause tells
 
     -- the file breaks a rule
     broken_promise : (rule : Rule) (status : Status) → FindsBroken folder.files (file_of command) rule → Asked folder folder' → out' ≡ out → HasCause false folder.faults folder'.faults → Tells (broken_line (file_of command) 1 1 rule) Broken note note' status → Promise words before after status
     broken_promise rule status (bytes, finds, broken) asked same cause tells =
         let files = files_of folder.files (Some bytes) in
         let input = input_of source.left in
-        let is_told = files_told folder.files (Some bytes) in
-        let is_left = input_told source.left in
         let found = files_found folder.files (file_of command) (Some bytes) finds in
         let line = broken_line (file_of command) 1 1 rule in
-        let e = answer_broken words files input command bytes rule is_read found broken in
         let first = found_first bytes rule broken in
-        let ends = tell_ends Broken status line note note' tells in
-        let still : out'.held ≡ out.held = ap (λ s. s.held) same in
-        let sink : out'.faults ≡ out.faults = ap (λ s. s.faults) same in
         let is_line : IsLineOf words files Broken line = (command, bytes, rule, 0, (reads, found, first), refl) in
-        let did = λ (s : Status) (is : s ≡ Broken) (put : Put line note note' (Ok tt)). did_reject files input Broken s line is_told is_left asked.unchanged e is still put in (
-          files,
-          input,
-          is_told,
-          is_left,
-          keeps words files input before after status
-              (λ calm. let whole = tell_calm Broken status line note note' tells calm.note in inl (did status whole.1 whole.0))
-              (finished_told files input Broken status line (did Broken refl) tells)
-              (by_end (λ s. Emits words files before after s) Broken status ends (nothing_emitted files Broken (λ value e. absurd (cc e)) (λ e. absurd (cc e))) (λ _. calm_emitted files sink))
-              (by_end (λ s. Cause words files input before after s) Broken status ends (command, bytes, rule, 0, (reads, found, first)) inr)
-              (subst (λ meant. Settles before after meant status) (sym (ap (λ answer. answer.status) e))
-              (by_end (λ s. Settles before after Broken s) Broken status ends (inl (inl refl)) (λ rose. inr (inr rose))))
-              (hides_note status (cause.stayed refl) sink (note_told Broken status ends))
-              (grows cause.no_lower (omega arith) (tell_grows Broken status line note note' tells))
-              (stands_still files input is_left still)
-              (acts files (answer_of words files input) status
-              (by_end (λ s. Does files (answer_of words files input) command s) Broken status ends (does_broken asked same files (answer_of words files input) command) (does_note_fault asked same files (answer_of words files input) command)))
-              (noted_told files Broken status line is_line (λ put. (line, is_line, put)) tells)
-              refl,
-        )
+        told_promise files Broken status line (files_told folder.files (Some bytes)) (answer_broken words files input command bytes rule is_read found broken) is_line (λ put. (line, is_line, put))
+        (command, bytes, rule, 0, (reads, found, first)) inr (nothing_emitted files Broken (λ value e. absurd (cc e)) (λ e. absurd (cc e)))
+        (does_broken asked same files (answer_of words files input) command) asked same cause tells
 
     -- the same of a status that is this one
     at_status : (meant status : Status) → status ≡ meant → Promise words before after meant → Promise words before after status

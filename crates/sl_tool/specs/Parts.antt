@@ -91,7 +91,7 @@ EmitsFile name file before after out out' (Err stop.NotBuilt) = FindsUnbuilt bef
 EmitsFile name file before after out out' (Err stop.Folder) = (Asked before after ⊎ WritesC name file before after (Err refused.Failed)) × (out' ≡ out)
 EmitsFile name file before after out out' (Err stop.Mem) = (Asked before after ⊎ WritesC name file before after (Err refused.Mem)) × (out' ≡ out)
 
--- the line of what stopped a file's run, with the status that comes of it
+-- the line of what stopped a command, with the status that comes of it
 abbrev pub TellsStop : List ℕ → Stop → SinkState → SinkState → Status → Type 0
 TellsStop file stop.NoFile before after status = Tells (no_file_line file) NoFile before after status ⊎ (Tried no_memory_line before after × (status ≡ Memory))
 TellsStop file (stop.Broken rule) before after status = Tells (broken_line file 1 1 rule) Broken before after status ⊎ (Tried no_memory_line before after × (status ≡ Memory))

@@ -1,4 +1,4 @@
--- What a refused call of the folder stops a file's run for.
+-- What a refused call of the folder stops a command for.
 use Rattle.sl_outside.specs.declared.folder.Refused.{Refused}
 use Rattle.sl_outside.specs.declared.folder.Refused.TheVariants as refused
 use Rattle.sl_tool.specs.declared.stop.Stop.{Stop}

@@ -53,7 +53,7 @@ pub fn tell_usage<N: Sink>(note: &mut N) -> Status
     put_line(note, Status::Usage, USAGE)
 }
 
-/// Tells why a file was not run to its end.
+/// Tells why a command stopped before its end.
 pub fn tell_stop<N: Sink>(alloc: Global, file: &str, stop: Stop, note: &mut N) -> Status
     ensures { TellsStop file.now stop
         (sink_state (N.held note.old) (N.faults note.old) (N.calls note.old))
