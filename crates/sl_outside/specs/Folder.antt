@@ -1,5 +1,5 @@
 -- What a folder holds, and what its calls answer and leave.
-use Rattle.std.specs.Prelude.{◌≡◌, ◌≢◌, ℕ, List, Option, Some, None, Bool, true, false, Result, Ok, Err, IfSome, IfOk, IsSomeAnd}
+use Rattle.std.specs.Prelude.{◌≡◌, ◌≢◌, ℕ, List, ◌++◌, Option, Some, None, Bool, true, false, Result, Ok, Err, IfSome, IfOk, IsSomeAnd}
 use Rattle.sl_outside.specs.declared.folder.Refused.{Refused}
 use Rattle.sl_outside.specs.declared.folder.Refused.TheVariants.{Failed, Mem}
 
@@ -30,11 +30,23 @@ WriteGives (Some old) after name bytes (Ok done) = IsSomeAnd after (λ new. (new
 WriteGives (Some old) after name bytes (Err Failed) = IsSomeAnd after (λ new. OthersStay name old new)
 WriteGives (Some old) after name bytes (Err Mem) = after ≡ Some old
 
--- a folder as clauses see it: what it holds, where it tells that, how often it failed, and how often it was called
+-- a call of a folder, with what it answered
+pub data FolderCall : Type 0 where
+  ReadCall : (name : List ℕ) (answer : Result (Option (List ℕ)) Refused) → FolderCall
+  WriteCall : (name bytes : List ℕ) (answer : Result (Unit {0}) Refused) → FolderCall
+
+-- what a folder tells of its calls goes on with these. Of one that tells nothing, nothing is said
+abbrev pub GoesOn : Option (List FolderCall) → Option (List FolderCall) → List FolderCall → Type 0
+GoesOn None after calls = Unit {0}
+GoesOn (Some before) after calls = after ≡ Some (before ++ calls)
+
+-- a folder as clauses see it: what it holds, where it tells that, how often it failed, how often it was called, and its calls in
+-- their order, where it tells them
 pub record FolderState : Type 0 where
   pub files : Option Contents
   pub faults : ℕ
   pub calls : ℕ
+  pub log : Option (List FolderCall)
 
-abbrev pub folder_state : Option Contents → ℕ → ℕ → FolderState
-folder_state files faults calls = record { files = files; faults = faults; calls = calls }
+abbrev pub folder_state : Option Contents → ℕ → ℕ → Option (List FolderCall) → FolderState
+folder_state files faults calls log = record { files = files; faults = faults; calls = calls; log = log }

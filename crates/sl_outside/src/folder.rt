@@ -1,6 +1,6 @@
-ghost use Rattle.std.specs.Prelude.{◌≡◌, ℕ, Option};
+ghost use Rattle.std.specs.Prelude.{◌≡◌, ℕ, List, [], ◌∷◌, Option};
 ghost use Rattle.sl_outside.specs.Counts.{HasCause, one_more};
-ghost use Rattle.sl_outside.specs.Folder.{Contents, ReadGives, WriteGives, is_fault};
+ghost use Rattle.sl_outside.specs.Folder.{Contents, FolderCall, GoesOn, ReadCall, ReadGives, WriteCall, WriteGives, is_fault};
 
 use sl_text::{Mem, Row};
 use std::alloc::{AllocError, Global};
@@ -50,16 +50,22 @@ pub trait Folder {
     /// How often it was called, up to 2^64 - 1.
     ghost calls: { Self → ℕ };
 
+    /// Its calls with what they answered, in their order, where it tells them. No folder of this crate does, since a log grows;
+    /// but code that is proved over every folder is proved over those that do.
+    ghost log: { Self → Option (List FolderCall) };
+
     /// The bytes under a name, or None where the name isn't there.
     fn read(&mut self, alloc: Global, name: &str) -> Result<Option<Row<u8>>, Refused>
         ensures found { ReadGives (files self.old) name.now result }
         ensures unchanged { files self.new ≡ files self.old }
         ensures cause { HasCause (is_fault result) (faults self.old) (faults self.new) }
-        ensures counted { calls self.new ≡ one_more (calls self.old) };
+        ensures counted { calls self.new ≡ one_more (calls self.old) }
+        ensures logged { GoesOn (log self.old) (log self.new) (ReadCall name.now result ∷ []) };
 
     /// Puts bytes under a name, in place of what was there.
     fn write(&mut self, alloc: Global, name: &str, bytes: &[u8]) -> Result<(), Refused>
         ensures written { WriteGives (files self.old) (files self.new) name.now bytes.now result }
         ensures cause { HasCause (is_fault result) (faults self.old) (faults self.new) }
-        ensures counted { calls self.new ≡ one_more (calls self.old) };
+        ensures counted { calls self.new ≡ one_more (calls self.old) }
+        ensures logged { GoesOn (log self.old) (log self.new) (WriteCall name.now bytes.now result ∷ []) };
 }

@@ -47,6 +47,8 @@ impl<'a, R: Files> Folder for FolderOnDisk<'a, R> {
 
     ghost calls = { disk_calls };
 
+    ghost log = { λ _. None };
+
     fn read(&mut self, alloc: Global, name: &str) -> Result<Option<Row<u8>>, Refused> {
         self.calls = self.calls.saturating_add(1);
         let found = read_file(alloc, self.rt, name);

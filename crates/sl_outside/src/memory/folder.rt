@@ -35,7 +35,7 @@ impl SureFolder {
 }
 
 impl Folder for SureFolder {
-    ghost use Rattle.std.specs.Prelude.{Some};
+    ghost use Rattle.std.specs.Prelude.{None, Some};
     ghost use Rattle.sl_outside.specs.Entries.{contents_of};
 
     ghost files = { λ f. Some (contents_of f.files) };
@@ -43,6 +43,8 @@ impl Folder for SureFolder {
     ghost faults = { λ _. 0 };
 
     ghost calls = { λ f. f.calls };
+
+    ghost log = { λ _. None };
 
     fn read(&mut self, alloc: Global, name: &str) -> Result<Option<Row<u8>>, Refused> {
         self.calls = self.calls.saturating_add(1);
@@ -89,7 +91,7 @@ impl MemoryFolder {
 }
 
 impl Folder for MemoryFolder {
-    ghost use Rattle.std.specs.Prelude.{Some};
+    ghost use Rattle.std.specs.Prelude.{None, Some};
     ghost use Rattle.sl_outside.specs.Entries.{contents_of};
 
     ghost files = { λ f. Some (contents_of f.files) };
@@ -97,6 +99,8 @@ impl Folder for MemoryFolder {
     ghost faults = { λ f. f.faults };
 
     ghost calls = { λ f. f.calls };
+
+    ghost log = { λ _. None };
 
     fn read(&mut self, alloc: Global, name: &str) -> Result<Option<Row<u8>>, Refused>
         ensures found { ReadGives (Some (contents_of self.old.files)) name.now result }
