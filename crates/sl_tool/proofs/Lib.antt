@@ -1,6 +1,7 @@
 pub mod Reader
 pub mod Reading
 pub mod Accepted
+pub mod Sources
 pub mod Walking
 pub mod Tree
 pub mod Naming
@@ -11,6 +12,8 @@ pub mod Answering
 pub mod Noting
 pub mod Printing
 pub mod Told
+pub mod Asking
+pub mod ToldSources
 pub mod Writing
 pub mod Promising
 pub mod Paths

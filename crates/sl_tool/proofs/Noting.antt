@@ -1,5 +1,5 @@
 -- What a sink that tells its bytes got, and what is told.
-use Rattle.std.proofs.Common.{◌≡◌, ℕ, ◌≤◌, List, [], ◌++◌, Option, Some, None, refl, sym, subst, append-nil, inl, inr, arith}
+use Rattle.std.proofs.Common.{◌≡◌, ℕ, ◌+◌, ◌≤◌, List, [], ◌++◌, Option, Some, None, refl, sym, subst, append-nil, inl, inr, arith}
 use Rattle.std.specs.Prelude.{◌⊎◌, Result, Ok, Err, IfSome}
 use Rattle.sl_outside.specs.declared.source.Failed.{Failed}
 use Rattle.sl_outside.specs.Counts.{Rose}
@@ -55,7 +55,20 @@ pub tell_calm : (meant status : Status) (line : List ℕ) (a b : SinkState) → 
 tell_calm meant status line a b (inl h) calm = h
 tell_calm meant status line a b (inr (m, refused, tried, e)) calm = absurd (calm (rose_by a.faults m.faults b.faults (refused.cause.rose refl) tried.1.cause.no_lower))
 
--- the count doesn't fall where a line is told
-pub tell_grows : (meant status : Status) (line : List ℕ) (a b : SinkState) → Tells line meant a b status → a.faults ≤ b.faults
-tell_grows meant status line a b (inl h) = h.0.cause.no_lower
-tell_grows meant status line a b (inr (m, refused, tried, e)) = let p : a.faults ≤ m.faults = refused.cause.no_lower in let q : m.faults ≤ b.faults = tried.1.cause.no_lower in omega arith
+-- the count doesn't fall where a line is told, and rises by two at most
+pub tell_grows : (meant status : Status) (line : List ℕ) (a b : SinkState) → Tells line meant a b status → (a.faults ≤ b.faults) × (b.faults ≤ a.faults + 2)
+tell_grows meant status line a b (inl h) = (h.0.cause.no_lower, let once : b.faults ≤ a.faults + 1 = h.0.cause.by_one in omega arith)
+tell_grows meant status line a b (inr (m, refused, tried, e)) =
+    let p : a.faults ≤ m.faults = refused.cause.no_lower in
+    let q : m.faults ≤ b.faults = tried.1.cause.no_lower in
+    let r : m.faults ≤ a.faults + 1 = refused.cause.by_one in
+    let s : b.faults ≤ m.faults + 1 = tried.1.cause.by_one in
+    (omega arith, omega arith)
+
+-- and by one where it is tried
+pub try_grows : (line : List ℕ) (a b : SinkState) → Tried line a b → (a.faults ≤ b.faults) × (b.faults ≤ a.faults + 2)
+try_grows line a b tried = (tried.1.cause.no_lower, let once : b.faults ≤ a.faults + 1 = tried.1.cause.by_one in omega arith)
+
+-- a count that stayed didn't grow
+pub stays_grown : (a b : ℕ) → b ≡ a → (a ≤ b) × (b ≤ a + 1)
+stays_grown a b e = (omega arith, omega arith)

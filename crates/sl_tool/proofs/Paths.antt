@@ -1,9 +1,9 @@
 -- The promise on each path through a call.
-use Rattle.std.proofs.Common.{◌≡◌, ℕ, ◌≤◌, ◌<◌, List, [], ◌++◌, Option, Some, None, true, false, refl, sym, ap, ◌∙◌, subst, inl, inr, append-nil, arith}
+use Rattle.std.proofs.Common.{◌≡◌, ℕ, ◌+◌, ◌≤◌, ◌<◌, Bool, List, [], ◌++◌, Option, Some, None, true, false, refl, sym, ap, ◌∙◌, subst, inl, inr, append-nil, arith}
 use Rattle.std.specs.Prelude.{◌⊎◌, pos, IfSome, Result, Ok, Err}
 use Rattle.sl_outside.specs.declared.folder.Refused.TheVariants as refused
 use Rattle.sl_outside.specs.declared.source.Failed.{Failed}
-use Rattle.sl_outside.specs.Counts.{Rose, HasCause, one_more}
+use Rattle.sl_outside.specs.Counts.{Rose, HasCause}
 use Rattle.sl_outside.specs.Folder.{Contents, FolderState}
 use Rattle.sl_outside.specs.Source.{SourceState}
 use Rattle.sl_outside.specs.Sink.{IsPrefix, SinkState, Put, Tried, Prints}
@@ -17,25 +17,25 @@ use Rattle.sl_tool.specs.declared.status.Status.TheVariants.{Exit, Usage, Broken
 use Rattle.sl_tool.specs.declared.straight.Straight.{Straight}
 use Rattle.sl_tool.specs.Straight.{ended}
 use Rattle.sl_text.specs.declared.rule.Rule.{Rule}
-use Rattle.sl_tool.specs.Accepting.{first_broken}
-use Rattle.sl_tool.specs.StraightReading.{straight_of}
+use Rattle.sl_tool.specs.SourceFiles.{SourceFile}
 use Rattle.sl_tool.specs.Tree.{tree_of, written}
-use Rattle.sl_tool.specs.Words.{Command, Run, Emit, file_of, Reads}
+use Rattle.sl_tool.specs.Words.{Command, Run, Emit, files_of, Reads, BeginsNoCommand}
 use Rattle.sl_tool.specs.WordsReading.{command_of}
 use Rattle.sl_tool.specs.Texts.{emitted_line, usage_line, broken_line, no_file_line, folder_fault_line, output_fault_line, no_memory_line, not_built_line}
-use Rattle.sl_tool.specs.Answer.{Answer, answer_of, answer_to_straight, rejected, emitted, c_name}
+use Rattle.sl_tool.specs.Answer.{Answer, answer_of, answer_to_straight, rejected, c_name}
 use Rattle.sl_tool.specs.Outside.{Outside, IsTold}
-use Rattle.sl_tool.specs.Promise.{IsUnlessMemory, HoldsStraight, Did, IsFinal, Finished, WroteC, Emits, Cause, HidesNoFault, CountsGrow, GoesNoFurther, Asked, AskedAndWrote, RunDid, EmitDid, Acts, IsLineOf, Noted, Promise}
-use Rattle.sl_tool.specs.Parts.{FindsBroken, FindsUnbuilt, Tells, Finds, is_folder_fault, RunsFile, WritesC, TellsC, EmitsFile, TellsStop}
-use Rattle.sl_tool.proofs.Reading.{command_of_reading, reading_of_command, no_reading}
-use Rattle.sl_tool.proofs.Reader.StraightReading.{straight_sound, straight_exactly}
-use Rattle.sl_tool.proofs.Accepted.{found_first, none_found}
+use Rattle.sl_tool.specs.Promise.{IsUnlessMemory, HoldsStraight, Did, IsFinal, Finished, WroteC, Emits, AsksForNoFile, AsksForBroken, Cause, HidesNoFault, CountsGrow, GoesNoFurther, AskedAndWrote, Stopped, RunDid, EmitDid, Acts, IsLineOf, Noted, Promise}
+use Rattle.sl_tool.specs.Parts.{FindsMissing, FindsBroken, FindsAccepted, StopsFor, Tells, is_folder_fault, RunsFiles, WritesC, TellsC, EmitsFiles, TellsStop}
+use Rattle.sl_tool.proofs.Reading.{command_of_reading, reading_of_command, no_reading, begins_none}
+use Rattle.sl_tool.proofs.Sources.{missing_found, missing_is_none, sources_found, found_accepted, found_broken, found_program, found_no_program}
 use Rattle.sl_tool.proofs.Walking.{run_is}
 use Rattle.sl_tool.proofs.Answering.{answer_usage, answer_broken, answer_no_file, answer_not_built, answer_straight, ran_is}
-use Rattle.sl_tool.proofs.Noting.{each_some, prefix_none, gave, gave_prefix, try_calm, tell_ends, tell_calm, tell_grows}
+use Rattle.sl_tool.proofs.Noting.{each_some, prefix_none, gave, gave_prefix, try_calm, tell_ends, tell_calm, tell_grows, try_grows, stays_grown}
 use Rattle.sl_tool.proofs.Printing.{printed_whole, printed_prefix, printed_calm, printed_rose}
-use Rattle.sl_tool.proofs.Told.{files_of, files_told, files_found, input_of, input_told, told_is, still_told}
-use Rattle.sl_tool.proofs.Promising.{answer_rest, Excused, Settles, keeps}
+use Rattle.sl_tool.proofs.Told.{told_files, files_told, input_of, input_told, told_is, still_told}
+use Rattle.sl_tool.proofs.Asking.{asked_all}
+use Rattle.sl_tool.proofs.ToldSources.{Accepted, told_missing, told_broken, told_accepted}
+use Rattle.sl_tool.proofs.Promising.{answer_rest, by_answer, Excused, Settles, keeps}
 use Rattle.sl_tool.proofs.Meant.{text_is_c}
 use Rattle.sl_tool.proofs.Writing.{written_told}
 
@@ -104,8 +104,20 @@ module _ (words : List (List ℕ)) (folder folder' : FolderState) (source : Sour
   noted_told files meant status line is given (inr (m, refused, tried, e)) = subst (λ s. Noted words files before after s) (sym e) (inr (meant, line, m, is, refused, tried))
 
   -- counts of faults
-  grows : folder.faults ≤ folder'.faults → out.faults ≤ out'.faults → note.faults ≤ note'.faults → CountsGrow before after
-  grows grown sink noting = record { folder = grown; input = omega arith; out = sink; note = noting }
+  grows : {is_fault : Bool} → HasCause is_fault folder.faults folder'.faults → (out.faults ≤ out'.faults) × (out'.faults ≤ out.faults + 1) → (note.faults ≤ note'.faults) × (note'.faults ≤ note.faults + 2) → CountsGrow before after
+  grows cause sink noting = record {
+    folder = cause.no_lower;
+    input = omega arith;
+    out = sink.0;
+    note = noting.0;
+    folder_once = cause.by_one;
+    out_once = sink.1;
+    note_twice = noting.1;
+  }
+
+  -- a folder that wasn't called failed no more
+  no_call : folder' ≡ folder → HasCause false folder.faults folder'.faults
+  no_call idle = subst (λ f. HasCause false folder.faults f.faults) (sym idle) (record { rose = λ never. absurd (cc never); by_one = omega arith; stayed = λ _. refl; no_lower = omega arith })
 
   -- where a line was told whole, the call did what was answered
   finished_told : (files : Contents) (input : List ℕ) (meant status : Status) (line : List ℕ) → (Put line note note' (Ok tt) → Did (answer_of words files input) before after meant) → Tells line meant note note' status → Finished words files input before after status
@@ -114,14 +126,14 @@ module _ (words : List (List ℕ)) (folder folder' : FolderState) (source : Sour
 
   -- a status that is no exit value and no fault of an output says nothing of C that was written
   nothing_emitted : (files : Contents) (status : Status) → ((value : ℕ) → ¬ (status ≡ Exit value)) → ¬ (status ≡ SinkFault) → Emits words files before after status
-  nothing_emitted files status no_exit no_fault name file reads = record {
+  nothing_emitted files status no_exit no_fault name names reads = record {
     done = λ value e. absurd (no_exit value e);
     not_told = λ e more. absurd (no_fault e);
   }
 
   -- nor does a fault of an output, where `out` had none
   calm_emitted : (files : Contents) → out'.faults ≡ out.faults → Emits words files before after SinkFault
-  calm_emitted files calm name file reads = record {
+  calm_emitted files calm name names reads = record {
     done = λ value e. absurd (cc e);
     not_told = λ e more. absurd (omega arith);
   }
@@ -129,9 +141,9 @@ module _ (words : List (List ℕ)) (folder folder' : FolderState) (source : Sour
   -- words with no reading
   pub usage_promise : (status : Status) → command_of words ≡ None → folder' ≡ folder → out' ≡ out → Tells usage_line Usage note note' status → Promise words before after status
   usage_promise status none idle same tells =
-      let files = files_of folder.files None in
+      let files = told_files folder.files in
       let input = input_of source.left in
-      let is_told = files_told folder.files None in
+      let is_told = files_told folder.files in
       let is_left = input_told source.left in
       let same_files : folder'.files ≡ folder.files = ap (λ f. f.files) idle in
       let calm_folder : folder'.faults ≡ folder.faults = ap (λ f. f.faults) idle in
@@ -148,30 +160,71 @@ module _ (words : List (List ℕ)) (folder folder' : FolderState) (source : Sour
         keeps words files input before after status
             (λ calm. let whole = tell_calm Usage status usage_line note note' tells calm.note in inl (did status whole.1 whole.0))
             (finished_told files input Usage status usage_line (did Usage refl) tells)
-            (λ name file reads. absurd (unread (Emit name file) reads))
+            (λ name names reads. absurd (unread (Emit name names) reads))
             (by_end (λ s. Cause words files input before after s) Usage status ends unread inr)
             (subst (λ meant. Settles before after meant status) (sym (ap (λ answer. answer.status) e))
             (by_end (λ s. Settles before after Usage s) Usage status ends (inl (inl refl)) inr))
+            (λ _ calm. (tell_calm Usage status usage_line note note' tells calm).1)
             (hides_note status calm_folder sink (note_told Usage status ends))
-            (grows (omega arith) (omega arith) (tell_grows Usage status usage_line note note' tells))
+            (grows (no_call idle) (stays_grown out.faults out'.faults sink) (tell_grows Usage status usage_line note note' tells))
             (stands_still files input is_left still)
             (record {
               none = λ _. (idle, same);
-              run = λ file reads. absurd (unread (Run file) reads);
-              emit = λ name file reads. absurd (unread (Emit name file) reads);
+              run = λ names reads. absurd (unread (Run names) reads);
+              emit = λ name names reads. absurd (unread (Emit name names) reads);
             })
             (noted_told files Usage status usage_line (unread, refl) (λ put. put) tells)
             refl,
       )
 
+  -- memory ran out with nothing put on `out`
+  memory_at : ¬ BeginsNoCommand words → (files : Contents) → IsTold folder.files files → out' ≡ out → HasCause false folder.faults folder'.faults → Acts words files (answer_of words files (input_of source.left)) before after Memory → Tried no_memory_line note note' → Promise words before after Memory
+  memory_at begins files is_told same cause acts tried =
+      let input = input_of source.left in
+      let is_left = input_told source.left in
+      let sink : out'.faults ≡ out.faults = ap (λ s. s.faults) same in (
+        files,
+        input,
+        is_told,
+        is_left,
+        keeps words files input before after Memory
+            (λ calm. inr refl)
+            (λ final. absurd final)
+            (nothing_emitted files Memory (λ value e. absurd (cc e)) (λ e. absurd (cc e)))
+            tt
+            (inl (inr refl))
+            (λ none. absurd (begins none))
+            (hides_note Memory (cause.stayed refl) sink (λ lt. inl (inr refl)))
+            (grows cause (stays_grown out.faults out'.faults sink) (try_grows _ note note' tried))
+            (stands_still files input is_left (ap (λ s. s.held) same))
+            acts
+            tried
+            refl,
+      )
+
+  -- memory ran out in reading the words
+  pub words_memory_promise : (status : Status) → ¬ BeginsNoCommand words → folder' ≡ folder → out' ≡ out → Tried no_memory_line note note' → status ≡ Memory → Promise words before after status
+  words_memory_promise status begins idle same tried e =
+      subst (λ s. Promise words before after s) (sym e)
+      (memory_at begins (told_files folder.files) (files_told folder.files) same (no_call idle)
+      (record {
+        none = λ _. (idle, same);
+        run = λ names reads. inl (inl idle, same);
+        emit = λ name names reads. inl (inl idle, same);
+      }) tried)
+
   module _ (command : Command) (is_read : command_of words ≡ Some command) where
     reads : Reads words command
     reads = reading_of_command words command is_read
 
+    -- the first word is that of a command
+    begins : ¬ BeginsNoCommand words
+    begins none = let h : None ≡ Some command = sym (begins_none words none) ∙ is_read in absurd (cc h)
+
     -- what a command did to the folder and to `out`
     abbrev Does : Contents → Answer → Command → Status → Type 0
-    Does files answer (Run file) status = RunDid answer before after status
-    Does files answer (Emit name file) status = EmitDid name file files answer before after status
+    Does files answer (Run names) status = RunDid names files answer before after status
+    Does files answer (Emit name names) status = EmitDid name names files answer before after status
 
     -- the words ask for nothing else
     same_command : (other : Command) → Reads words other → command ≡ other
@@ -180,78 +233,29 @@ module _ (words : List (List ℕ)) (folder folder' : FolderState) (source : Sour
     acts : (files : Contents) (answer : Answer) (status : Status) → Does files answer command status → Acts words files answer before after status
     acts files answer status h = record {
       none = λ unread. absurd (unread command reads);
-      run = λ file asks. subst (λ c. Does files answer c status) (same_command (Run file) asks) h;
-      emit = λ name file asks. subst (λ c. Does files answer c status) (same_command (Emit name file) asks) h;
+      run = λ names asks. subst (λ c. Does files answer c status) (same_command (Run names) asks) h;
+      emit = λ name names asks. subst (λ c. Does files answer c status) (same_command (Emit name names) asks) h;
     }
 
-    -- the folder was asked once and nothing was put on `out`
-    module _ (asked : Asked folder folder') (same : out' ≡ out) where
-      does_no_file : (files : Contents) (answer : Answer) (command : Command) → Does files answer command NoFile
-      does_no_file files answer (Run file) = record { asked = asked; printed = same }
-      does_no_file files answer (Emit name file) = (asked, same)
-
-      does_broken : (files : Contents) (answer : Answer) (command : Command) → Does files answer command Broken
-      does_broken files answer (Run file) = record { asked = asked; printed = same }
-      does_broken files answer (Emit name file) = (asked, same)
-
-      does_not_built : (files : Contents) (answer : Answer) (command : Command) → Does files answer command NotBuilt
-      does_not_built files answer (Run file) = record { asked = asked; printed = same }
-      does_not_built files answer (Emit name file) = (asked, same)
-
-      does_folder_fault : (files : Contents) (answer : Answer) (command : Command) → Does files answer command FolderFault
-      does_folder_fault files answer (Run file) = record { asked = asked; printed = same }
-      does_folder_fault files answer (Emit name file) = (inl asked, same)
-
-      does_memory : (files : Contents) (answer : Answer) (command : Command) → Does files answer command Memory
-      does_memory files answer (Run file) = record { asked = asked; printed = ([], prefix_none answer.out, same) }
-      does_memory files answer (Emit name file) = (inl asked, same)
-
-      does_note_fault : (files : Contents) (answer : Answer) (command : Command) → Rose note.faults note'.faults → Does files answer command SinkFault
-      does_note_fault files answer (Run file) rose = record { asked = asked; printed = inr (rose, same) }
-      does_note_fault files answer (Emit name file) rose = inr (rose, asked, same)
+    -- a command that stopped before it ran or wrote anything
+    does_stopped : (files : Contents) (answer : Answer) (command : Command) (status : Status) → Stopped (files_of command) files before after status → out' ≡ out → Does files answer command status
+    does_stopped files answer (Run names) status stopped same = inl (stopped, same)
+    does_stopped files answer (Emit name names) status stopped same = inl (stopped, same)
 
     -- a fault of the folder excuses whatever would have been answered
-    excused_straight : (files : Contents) (input : List ℕ) (other : Command) (program : Straight) → program.value ≤ 63 → Rose folder.faults folder'.faults → Excused before after (answer_to_straight other program files input).status
-    excused_straight files input (Run file) program small rose = subst (λ answer. Excused before after answer.status) (sym (ran_is program files input small)) (inl rose)
-    excused_straight files input (Emit name file) program small rose = inl rose
-
-    excused_program : (files : Contents) (input : List ℕ) → Rose folder.faults folder'.faults → (bytes : List ℕ) → files (file_of command) ≡ Some bytes → first_broken bytes ≡ None → (found : Option Straight) → straight_of bytes ≡ found → Excused before after (answer_of words files input).status
-    excused_program files input rose bytes there accepted None e = subst (λ answer. Excused before after answer.status) (sym (answer_not_built words files input command bytes is_read there accepted e)) rose
-    excused_program files input rose bytes there accepted (Some program) e =
-        subst (λ answer. Excused before after answer.status) (sym (answer_straight words files input command bytes program is_read there accepted e))
-        (excused_straight files input command program (straight_sound bytes program e).well_formed.value rose)
-
-    excused_source : (files : Contents) (input : List ℕ) → Rose folder.faults folder'.faults → (bytes : List ℕ) → files (file_of command) ≡ Some bytes → (broken : Option Rule) → first_broken bytes ≡ broken → Excused before after (answer_of words files input).status
-    excused_source files input rose bytes there None e = excused_program files input rose bytes there e (straight_of bytes) refl
-    excused_source files input rose bytes there (Some rule) e = subst (λ answer. Excused before after answer.status) (sym (answer_broken words files input command bytes rule is_read there e)) (inl rose)
-
-    excused : (files : Contents) (input : List ℕ) → Rose folder.faults folder'.faults → (found : Option (List ℕ)) → files (file_of command) ≡ found → Excused before after (answer_of words files input).status
-    excused files input rose None e = subst (λ answer. Excused before after answer.status) (sym (answer_no_file words files input command is_read e)) (inl rose)
-    excused files input rose (Some bytes) e = excused_source files input rose bytes e (first_broken bytes) refl
+    excused : (files : Contents) (input : List ℕ) → Rose folder.faults folder'.faults → Excused before after (answer_of words files input).status
+    excused files input rose =
+        by_answer words files input (λ answer. Excused before after answer.status)
+        (λ none. let some : None ≡ Some command = sym none ∙ is_read in absurd (cc some))
+        (λ _. inl rose) (λ _ _. inl rose) rose at
+      where
+        at : (other : Command) (program : Straight) → program.value ≤ 63 → Excused before after (answer_to_straight other program files input).status
+        at (Run names) program small = subst (λ answer. Excused before after answer.status) (sym (ran_is program files input small)) (inl rose)
+        at (Emit name names) program small = inl rose
 
     -- memory ran out before anything was put
     memory_promise : (files : Contents) → IsTold folder.files files → out' ≡ out → HasCause false folder.faults folder'.faults → Does files (answer_of words files (input_of source.left)) command Memory → Tried no_memory_line note note' → Promise words before after Memory
-    memory_promise files is_told same cause does tried =
-        let input = input_of source.left in
-        let is_left = input_told source.left in
-        let sink : out'.faults ≡ out.faults = ap (λ s. s.faults) same in (
-          files,
-          input,
-          is_told,
-          is_left,
-          keeps words files input before after Memory
-              (λ calm. inr refl)
-              (λ final. absurd final)
-              (nothing_emitted files Memory (λ value e. absurd (cc e)) (λ e. absurd (cc e)))
-              tt
-              (inl (inr refl))
-              (hides_note Memory (cause.stayed refl) sink (λ lt. inl (inr refl)))
-              (grows cause.no_lower (omega arith) tried.1.cause.no_lower)
-              (stands_still files input is_left (ap (λ s. s.held) same))
-              (acts files (answer_of words files input) Memory does)
-              tried
-              refl,
-        )
+    memory_promise files is_told same cause does tried = memory_at begins files is_told same cause (acts files (answer_of words files (input_of source.left)) Memory does) tried
 
     -- the folder failed
     folder_promise : (files : Contents) → IsTold folder.files files → out' ≡ out → HasCause true folder.faults folder'.faults → Does files (answer_of words files (input_of source.left)) command FolderFault → Tried folder_fault_line note note' → Promise words before after FolderFault
@@ -269,54 +273,56 @@ module _ (words : List (List ℕ)) (folder folder' : FolderState) (source : Sour
               (λ final. absurd final)
               (nothing_emitted files FolderFault (λ value e. absurd (cc e)) (λ e. absurd (cc e)))
               rose
-              (inr (excused files input rose (files (file_of command)) refl))
+              (inr (excused files input rose))
+              (λ none. absurd (begins none))
               (record { folder = λ _. refl; input = λ calm _. absurd (calm rose); out = λ calm _ _. absurd (calm rose); note = λ calm _ _. absurd (calm rose) })
-              (grows cause.no_lower (omega arith) tried.1.cause.no_lower)
+              (grows cause (stays_grown out.faults out'.faults sink) (try_grows _ note note' tried))
               (stands_still files input is_left (ap (λ s. s.held) same))
               (acts files (answer_of words files input) FolderFault does)
               tried
               refl,
         )
 
-    -- the file isn't straight
-    not_built_promise : FindsUnbuilt folder.files (file_of command) → Asked folder folder' → out' ≡ out → HasCause false folder.faults folder'.faults → Tried not_built_line note note' → Promise words before after NotBuilt
-    not_built_promise (bytes, finds, accepted, none) asked same cause tried =
-        let files = files_of folder.files (Some bytes) in
+    -- the sources aren't one straight file
+    not_built_promise : FindsAccepted (files_of command) None folder folder' → out' ≡ out → HasCause false folder.faults folder'.faults → Tried not_built_line note note' → Promise words before after NotBuilt
+    not_built_promise finds same cause tried =
+        let told = told_accepted finds in
+        let files = told.files in
         let input = input_of source.left in
-        let is_told = files_told folder.files (Some bytes) in
         let is_left = input_told source.left in
-        let found = files_found folder.files (file_of command) (Some bytes) finds in
-        let e = answer_not_built words files input command bytes is_read found accepted none in
+        let e = answer_not_built words files input command told.sources is_read (sources_found files (files_of command) told.sources told.are) told.accepted told.program_is in
         let still : out'.held ≡ out.held = ap (λ s. s.held) same in
-        let sink : out'.faults ≡ out.faults = ap (λ s. s.faults) same in (
+        let sink : out'.faults ≡ out.faults = ap (λ s. s.faults) same in
+        let asked = asked_all (files_of command) finds.sources folder folder' finds.finds in (
           files,
           input,
-          is_told,
+          told.is_told,
           is_left,
           keeps words files input before after NotBuilt
-              (λ calm. inl (did_reject files input NotBuilt NotBuilt not_built_line is_told is_left asked.unchanged e refl still (try_calm not_built_line note note' tried calm.note)))
+              (λ calm. inl (did_reject files input NotBuilt NotBuilt not_built_line told.is_told is_left asked.unchanged e refl still (try_calm not_built_line note note' tried calm.note)))
               (λ final. absurd final)
               (nothing_emitted files NotBuilt (λ value e. absurd (cc e)) (λ e. absurd (cc e)))
-              (command, bytes, reads, found, none_found bytes accepted, λ program straight. let some : straight_of bytes ≡ Some program = straight_exactly bytes program straight in cc)
+              (told.sources, (command, reads, told.are), found_accepted told.sources told.accepted, found_no_program told.sources told.program_is)
               (subst (λ meant. Settles before after meant NotBuilt) (sym (ap (λ answer. answer.status) e)) (inl (inl refl)))
+              (λ none. absurd (begins none))
               (hides_note NotBuilt (cause.stayed refl) sink (λ lt. inr refl))
-              (grows cause.no_lower (omega arith) tried.1.cause.no_lower)
+              (grows cause (stays_grown out.faults out'.faults sink) (try_grows _ note note' tried))
               (stands_still files input is_left still)
-              (acts files (answer_of words files input) NotBuilt (does_not_built asked same files (answer_of words files input) command))
+              (acts files (answer_of words files input) NotBuilt (does_stopped files (answer_of words files input) command NotBuilt asked same))
               tried
               refl,
         )
 
     -- nothing was put on `out`, and the line of a status was told on `note`, which is what is answered
-    told_promise : (files : Contents) (meant status : Status) (line : List ℕ) → IsTold folder.files files → answer_of words files (input_of source.left) ≡ rejected meant line files (input_of source.left) → IsLineOf words files meant line → (Put line note note' (Ok tt) → Noted words files before after meant) → Cause words files (input_of source.left) before after meant → (Rose note.faults note'.faults → Excused before after meant) → Emits words files before after meant → Does files (answer_of words files (input_of source.left)) command meant → Asked folder folder' → out' ≡ out → HasCause false folder.faults folder'.faults → Tells line meant note note' status → Promise words before after status
-    told_promise files meant status line is_told e is_line noted caused excuse emits does asked same cause tells =
+    told_promise : (files : Contents) (meant status : Status) (line : List ℕ) → IsTold folder.files files → answer_of words files (input_of source.left) ≡ rejected meant line files (input_of source.left) → IsLineOf words files meant line → (Put line note note' (Ok tt) → Noted words files before after meant) → Cause words files (input_of source.left) before after meant → (Rose note.faults note'.faults → Excused before after meant) → Emits words files before after meant → Stopped (files_of command) files before after meant → (Rose note.faults note'.faults → Stopped (files_of command) files before after SinkFault) → folder'.files ≡ folder.files → out' ≡ out → HasCause false folder.faults folder'.faults → Tells line meant note note' status → Promise words before after status
+    told_promise files meant status line is_told e is_line noted caused excuse emits stopped refused unchanged same cause tells =
         let input = input_of source.left in
         let is_left = input_told source.left in
         let answer = answer_of words files input in
         let ends = tell_ends meant status line note note' tells in
         let still : out'.held ≡ out.held = ap (λ s. s.held) same in
         let sink : out'.faults ≡ out.faults = ap (λ s. s.faults) same in
-        let did = λ (s : Status) (is : s ≡ meant) (put : Put line note note' (Ok tt)). did_reject files input meant s line is_told is_left asked.unchanged e is still put in (
+        let did = λ (s : Status) (is : s ≡ meant) (put : Put line note note' (Ok tt)). did_reject files input meant s line is_told is_left unchanged e is still put in (
           files,
           input,
           is_told,
@@ -328,45 +334,65 @@ module _ (words : List (List ℕ)) (folder folder' : FolderState) (source : Sour
               (by_end (λ s. Cause words files input before after s) meant status ends caused inr)
               (subst (λ other. Settles before after other status) (sym (ap (λ answer. answer.status) e))
               (by_end (λ s. Settles before after meant s) meant status ends (inl (inl refl)) (λ rose. inr (excuse rose))))
+              (λ none. absurd (begins none))
               (hides_note status (cause.stayed refl) sink (note_told meant status ends))
-              (grows cause.no_lower (omega arith) (tell_grows meant status line note note' tells))
+              (grows cause (stays_grown out.faults out'.faults sink) (tell_grows meant status line note note' tells))
               (stands_still files input is_left still)
-              (acts files answer status (by_end (λ s. Does files answer command s) meant status ends does (does_note_fault asked same files answer command)))
+              (acts files answer status (does_stopped files answer command status (by_end (λ s. Stopped (files_of command) files before after s) meant status ends stopped refused) same))
               (noted_told files meant status line is_line noted tells)
               refl,
         )
 
-    -- the file isn't there
-    no_file_promise : (status : Status) → Finds folder.files (file_of command) None → Asked folder folder' → out' ≡ out → HasCause false folder.faults folder'.faults → Tells (no_file_line (file_of command)) NoFile note note' status → Promise words before after status
-    no_file_promise status finds asked same cause tells =
-        let files = files_of folder.files None in
+    -- a file isn't there
+    no_file_promise : (name : List ℕ) (status : Status) → FindsMissing (files_of command) name folder folder' → out' ≡ out → HasCause false folder.faults folder'.faults → Tells (no_file_line name) NoFile note note' status → Promise words before after status
+    no_file_promise name status finds same cause tells =
+        let told = told_missing finds in
+        let files = told.files in
         let input = input_of source.left in
-        let found = files_found folder.files (file_of command) None finds in
-        let line = no_file_line (file_of command) in
-        let is_line : IsLineOf words files NoFile line = (command, reads, found, refl) in
-        told_promise files NoFile status line (files_told folder.files None) (answer_no_file words files input command is_read found) is_line (λ put. (line, is_line, put))
-        (command, reads, found) inr (nothing_emitted files NoFile (λ value e. absurd (cc e)) (λ e. absurd (cc e)))
-        (does_no_file asked same files (answer_of words files input) command) asked same cause tells
+        let line = no_file_line name in
+        let asks : AsksForNoFile words files name = (command, reads, told.missing) in
+        let is_line : IsLineOf words files NoFile line = (name, asks, refl) in
+        let none = missing_is_none files (files_of command) name told.missing in
+        told_promise files NoFile status line told.is_told (answer_no_file words files input command name is_read (missing_found files (files_of command) name told.missing)) is_line (λ put. (line, is_line, put))
+        (name, asks) inr (nothing_emitted files NoFile (λ value e. absurd (cc e)) (λ e. absurd (cc e)))
+        (name, none, finds.asked) (λ rose. (rose, inr (name, none, finds.asked))) finds.asked.unchanged same cause tells
 
-    -- the file breaks a rule
-    broken_promise : (rule : Rule) (status : Status) → FindsBroken folder.files (file_of command) rule → Asked folder folder' → out' ≡ out → HasCause false folder.faults folder'.faults → Tells (broken_line (file_of command) 1 1 rule) Broken note note' status → Promise words before after status
-    broken_promise rule status (bytes, finds, broken) asked same cause tells =
-        let files = files_of folder.files (Some bytes) in
+    -- a source breaks a rule
+    broken_promise : (name : List ℕ) (rule : Rule) (status : Status) → FindsBroken (files_of command) name rule folder folder' → out' ≡ out → HasCause false folder.faults folder'.faults → Tells (broken_line name 1 1 rule) Broken note note' status → Promise words before after status
+    broken_promise name rule status finds same cause tells =
+        let told = told_broken finds in
+        let files = told.files in
         let input = input_of source.left in
-        let found = files_found folder.files (file_of command) (Some bytes) finds in
-        let line = broken_line (file_of command) 1 1 rule in
-        let first = found_first bytes rule broken in
-        let is_line : IsLineOf words files Broken line = (command, bytes, rule, 0, (reads, found, first), refl) in
-        told_promise files Broken status line (files_told folder.files (Some bytes)) (answer_broken words files input command bytes rule is_read found broken) is_line (λ put. (line, is_line, put))
-        (command, bytes, rule, 0, (reads, found, first)) inr (nothing_emitted files Broken (λ value e. absurd (cc e)) (λ e. absurd (cc e)))
-        (does_broken asked same files (answer_of words files input) command) asked same cause tells
+        let line = broken_line name 1 1 rule in
+        let broken : SourceFile = record { name = name; bytes = finds.bytes } in
+        let asks : AsksForBroken words files broken rule 0 = (told.sources, (command, reads, told.are), found_broken told.sources broken rule told.broken) in
+        let is_line : IsLineOf words files Broken line = (broken, rule, 0, asks, refl) in
+        let asked = asked_all (files_of command) finds.sources folder folder' finds.finds in
+        told_promise files Broken status line told.is_told (answer_broken words files input command told.sources broken rule is_read (sources_found files (files_of command) told.sources told.are) told.broken) is_line (λ put. (line, is_line, put))
+        (broken, rule, 0, asks) inr (nothing_emitted files Broken (λ value e. absurd (cc e)) (λ e. absurd (cc e)))
+        asked (λ rose. (rose, inl asked)) asked.unchanged same cause tells
 
     -- the same of a status that is this one
     at_status : (meant status : Status) → status ≡ meant → Promise words before after meant → Promise words before after status
     at_status meant status e h = subst (λ s. Promise words before after s) (sym e) h
 
+    -- the command stopped before it ran or wrote anything
+    stopped_promise : (why : Stop) (status : Status) → StopsFor (files_of command) folder folder' why → out' ≡ out → HasCause (is_folder_fault {A = Unit {0}} (Err why)) folder.faults folder'.faults → TellsStop why note note' status → Promise words before after status
+    stopped_promise (stop.NoFile name) status finds same cause (inl tells) = no_file_promise name.now status finds same cause tells
+    stopped_promise (stop.NoFile name) status finds same cause (inr (tried, e)) =
+        at_status Memory status e (memory_promise (told_files folder.files) (files_told folder.files) same cause (does_stopped (told_files folder.files) (answer_of words (told_files folder.files) (input_of source.left)) command Memory (inr (inr (name.now, Ok None, tt, finds.asked))) same) tried)
+    stopped_promise (stop.Broken name rule) status finds same cause (inl tells) = broken_promise name.now rule status finds same cause tells
+    stopped_promise (stop.Broken name rule) status finds same cause (inr (tried, e)) =
+        at_status Memory status e (memory_promise (told_files folder.files) (files_told folder.files) same cause (does_stopped (told_files folder.files) (answer_of words (told_files folder.files) (input_of source.left)) command Memory (inr (inl (asked_all (files_of command) finds.sources folder folder' finds.finds))) same) tried)
+    stopped_promise stop.NotBuilt status finds same cause (tried, e) = at_status NotBuilt status e (not_built_promise finds same cause tried)
+    stopped_promise stop.Folder status asked same cause (tried, e) =
+        at_status FolderFault status e (folder_promise (told_files folder.files) (files_told folder.files) same cause (does_stopped (told_files folder.files) (answer_of words (told_files folder.files) (input_of source.left)) command FolderFault asked same) tried)
+    stopped_promise stop.Sink status never same cause tells = absurd never
+    stopped_promise stop.Mem status asked same cause (tried, e) =
+        at_status Memory status e (memory_promise (told_files folder.files) (files_told folder.files) same cause (does_stopped (told_files folder.files) (answer_of words (told_files folder.files) (input_of source.left)) command Memory (inr asked) same) tried)
+
     -- `out` failed, with a prefix of what is answered on it
-    sink_promise : (files : Contents) → IsTold folder.files files → GoesNoFurther (answer_of words files (input_of source.left)) (input_of source.left) before after → Excused before after (answer_of words files (input_of source.left)).status → Rose out.faults out'.faults → out.faults ≤ out'.faults → HasCause false folder.faults folder'.faults → Emits words files before after SinkFault → Does files (answer_of words files (input_of source.left)) command SinkFault → Tried output_fault_line note note' → Promise words before after SinkFault
+    sink_promise : (files : Contents) → IsTold folder.files files → GoesNoFurther (answer_of words files (input_of source.left)) (input_of source.left) before after → Excused before after (answer_of words files (input_of source.left)).status → Rose out.faults out'.faults → (out.faults ≤ out'.faults) × (out'.faults ≤ out.faults + 1) → HasCause false folder.faults folder'.faults → Emits words files before after SinkFault → Does files (answer_of words files (input_of source.left)) command SinkFault → Tried output_fault_line note note' → Promise words before after SinkFault
     sink_promise files is_told stands excuse rose more cause emits does tried =
         let input = input_of source.left in (
           files,
@@ -379,228 +405,218 @@ module _ (words : List (List ℕ)) (folder folder' : FolderState) (source : Sour
               emits
               (inl rose)
               (inr excuse)
+              (λ none. absurd (begins none))
               (record { folder = λ lt. absurd (let same : folder'.faults ≡ folder.faults = cause.stayed refl in omega arith); input = λ _ lt. absurd (omega arith); out = λ _ _ _. refl; note = λ _ _ _. inl (inl refl) })
-              (grows cause.no_lower more tried.1.cause.no_lower)
+              (grows cause more (try_grows _ note note' tried))
               stands
               (acts files (answer_of words files input) SinkFault does)
               (inl (rose, tried))
               refl,
         )
 
-  -- `run` of a file
-  module _ (file : List ℕ) (is_read : command_of words ≡ Some (Run file)) (counted : folder'.calls ≡ one_more folder.calls) (unchanged : folder'.files ≡ folder.files) where
-    asked : Asked folder folder'
-    asked = record { once = counted; unchanged = unchanged }
+    -- a program that was found
+    module _ (program : Straight) (told : Accepted folder.files (files_of command) (Some program)) where
+      held : HoldsStraight told.files (files_of command) program
+      held = (told.sources, told.are, found_accepted told.sources told.accepted, found_program told.sources program told.program_is)
 
+      small : program.value ≤ 63
+      small = held.3.2.well_formed.value
+
+      answers_straight : (input : List ℕ) → answer_of words told.files input ≡ answer_to_straight command program told.files input
+      answers_straight input = answer_straight words told.files input command told.sources program is_read (sources_found told.files (files_of command) told.sources told.are) told.accepted told.program_is
+
+  -- `run` of files
+  module _ (names : List (List ℕ)) (is_read : command_of words ≡ Some (Run names)) where
     -- what a straight file answers
-    answers : (files : Contents) (input bytes : List ℕ) (program : Straight) → files file ≡ Some bytes → first_broken bytes ≡ None → straight_of bytes ≡ Some program → answer_of words files input ≡ record { status = Exit program.value; files = files; out = ended program.texts; note = []; rest = input }
-    answers files input bytes program found accepted some =
-        answer_straight words files input (Run file) bytes program is_read found accepted some ∙ ran_is program files input (straight_sound bytes program some).well_formed.value
+    answers : (input : List ℕ) (program : Straight) (told : Accepted folder.files names (Some program)) → answer_of words told.files input ≡ record { status = Exit program.value; files = told.files; out = ended program.texts; note = []; rest = input }
+    answers input program told = answers_straight (Run names) is_read program told input ∙ ran_is program told.files input (small (Run names) is_read program told)
 
     -- a prefix of a straight file's output is on `out`
-    stands_prefix : (files : Contents) (input bytes : List ℕ) (program : Straight) (result : Result (Unit {0}) Failed) → IsTold source.left input → files file ≡ Some bytes → first_broken bytes ≡ None → straight_of bytes ≡ Some program → Prints (ended program.texts) out out' result → GoesNoFurther (answer_of words files input) input before after
-    stands_prefix files input bytes program result is_left found accepted some prints = record {
+    stands_prefix : (input : List ℕ) (program : Straight) (told : Accepted folder.files names (Some program)) (result : Result (Unit {0}) Failed) → IsTold source.left input → Prints (ended program.texts) out out' result → GoesNoFurther (answer_of words told.files input) input before after
+    stands_prefix input program told result is_left prints = record {
       out = each_some out.held _ (λ held e.
           let prefix = printed_prefix (ended program.texts) out out' held result e prints in
-          (prefix.0, subst (λ whole. IsPrefix prefix.0 whole) (sym (ap (λ answer. answer.out) (answers files input bytes program found accepted some))) prefix.1, prefix.2));
-      taken = takes_nothing files input is_left;
+          (prefix.0, subst (λ whole. IsPrefix prefix.0 whole) (sym (ap (λ answer. answer.out) (answers input program told))) prefix.1, prefix.2));
+      taken = takes_nothing told.files input is_left;
     }
 
     -- the words don't ask for C
     runs_only : (files : Contents) (status : Status) → Emits words files before after status
-    runs_only files status name other asks = let never : Run file ≡ Emit name other = same_command (Run file) is_read (Emit name other) asks in absurd (cc never)
+    runs_only files status name other asks = let never : Run names ≡ Emit name other = same_command (Run names) is_read (Emit name other) asks in absurd (cc never)
 
     -- the program ran to its end
-    pub exit_promise : (value : ℕ) → RunsFile folder.files file out out' (Ok value) → HasCause false folder.faults folder'.faults → note' ≡ note → Promise words before after (Exit value)
-    exit_promise value (program, (bytes, finds, accepted, some), is, prints) cause quiet =
-        let files = files_of folder.files (Some bytes) in
+    pub exit_promise : (value : ℕ) → RunsFiles names folder folder' out out' (Ok value) → HasCause false folder.faults folder'.faults → note' ≡ note → Promise words before after (Exit value)
+    exit_promise value (program, finds, is, prints) cause quiet =
+        let told = told_accepted finds in
+        let files = told.files in
         let input = input_of source.left in
-        let is_told = files_told folder.files (Some bytes) in
         let is_left = input_told source.left in
-        let found = files_found folder.files file (Some bytes) finds in
-        let straight = straight_sound bytes program some in
-        let e = answers files input bytes program found accepted some in
-        let small : value ≤ 63 = subst (λ n. n ≤ 63) (sym is) straight.well_formed.value in
+        let asked = asked_all names finds.sources folder folder' finds.finds in
+        let e = answers input program told in
+        let little : value ≤ 63 = subst (λ n. n ≤ 63) (sym is) (small (Run names) is_read program told) in
         let calm : out'.faults ≡ out.faults = printed_calm (ended program.texts) out out' prints in
         let same : note'.faults ≡ note.faults = ap (λ n. n.faults) quiet in
         let did : Did (answer_of words files input) before after (Exit value) =
         subst (λ answer. Did answer before after (Exit value)) (sym e)
         (record {
           same_status = ap Exit is;
-          files = still_told folder.files folder'.files files is_told unchanged;
+          files = still_told folder.files folder'.files files told.is_told asked.unchanged;
           out = each_some out.held _ (λ held g. printed_whole (ended program.texts) out out' held g prints);
           note = each_some note.held _ (λ held g. ap (λ n. n.held) quiet ∙ (g ∙ ap Some (sym (append-nil held))));
           rest = told_is source.left input is_left;
         }) in (
           files,
           input,
-          is_told,
+          told.is_told,
           is_left,
           keeps words files input before after (Exit value)
               (λ calm. inl did)
               (λ _. did)
               (runs_only files (Exit value))
-              (small, (Run file, program, reads (Run file) is_read, (bytes, found, none_found bytes accepted, straight), ap (λ run. run.ending) (run_is program input 999999999) ∙ ap (λ n. Done (pos n)) (sym is)))
+              (little, (Run names, program, reads (Run names) is_read, held (Run names) is_read program told, ap (λ run. run.ending) (run_is program input 999999999) ∙ ap (λ n. Done (pos n)) (sym is)))
               (subst (λ meant. Settles before after meant (Exit value)) (sym (ap (λ answer. answer.status) e)) (inl (inl (ap Exit is))))
+              (λ none. absurd (begins (Run names) is_read none))
               (hides_note (Exit value) (cause.stayed refl) calm (λ lt. absurd (omega arith)))
-              (grows cause.no_lower (omega arith) (omega arith))
-              (stands_prefix files input bytes program (Ok tt) is_left found accepted some prints)
-              (acts (Run file) is_read files (answer_of words files input) (Exit value) (record { asked = asked; printed = subst (λ answer. Prints answer.out out out' (Ok tt)) (sym e) prints }))
+              (grows cause (stays_grown out.faults out'.faults calm) (omega arith, omega arith))
+              (stands_prefix input program told (Ok tt) is_left prints)
+              (acts (Run names) is_read files (answer_of words files input) (Exit value) (inr (asked, subst (λ answer. Prints answer.out out out' (Ok tt)) (sym e) prints)))
               quiet
               refl,
         )
 
     -- `out` failed
-    run_sink_promise : RunsFile folder.files file out out' (Err stop.Sink) → HasCause false folder.faults folder'.faults → Tried output_fault_line note note' → Promise words before after SinkFault
-    run_sink_promise (program, (bytes, finds, accepted, some), prints) cause tried =
-        let files = files_of folder.files (Some bytes) in
+    run_sink_promise : RunsFiles names folder folder' out out' (Err stop.Sink) → HasCause false folder.faults folder'.faults → Tried output_fault_line note note' → Promise words before after SinkFault
+    run_sink_promise (program, finds, prints) cause tried =
+        let told = told_accepted finds in
         let input = input_of source.left in
-        let is_left = input_told source.left in
-        let found = files_found folder.files file (Some bytes) finds in
-        let e = answers files input bytes program found accepted some in
+        let e = answers input program told in
         let failed = printed_rose (ended program.texts) out out' (record {}) prints in
-        sink_promise (Run file) is_read files (files_told folder.files (Some bytes))
-        (stands_prefix files input bytes program (Err (record {})) is_left found accepted some prints)
+        sink_promise (Run names) is_read told.files told.is_told
+        (stands_prefix input program told (Err (record {})) (input_told source.left) prints)
         (subst (λ answer. Excused before after answer.status) (sym e) (inr failed.0))
-        failed.0 failed.1 cause (runs_only files SinkFault)
-        (record { asked = asked; printed = subst (λ answer. Prints answer.out out out' (Err (record {})) ⊎ (Rose note.faults note'.faults × (out' ≡ out))) (sym e) (inl prints) })
+        failed.0 (failed.1, failed.2) cause (runs_only told.files SinkFault)
+        (inr (asked_all names finds.sources folder folder' finds.finds, subst (λ answer. Prints answer.out out out' (Err (record {}))) (sym e) prints))
         tried
 
-    -- the file was not run to its end
-    pub stop_promise : (why : Stop) (status : Status) → RunsFile folder.files file out out' (Err why) → HasCause (is_folder_fault {A = ℕ} (Err why)) folder.faults folder'.faults → TellsStop file why note note' status → Promise words before after status
-    stop_promise stop.NoFile status (finds, same) cause (inl tells) = no_file_promise (Run file) is_read status finds asked same cause tells
-    stop_promise stop.NoFile status (finds, same) cause (inr (tried, e)) = at_status (Run file) is_read Memory status e (memory_promise (Run file) is_read (files_of folder.files None) (files_told folder.files None) same cause (record { asked = asked; printed = ([], prefix_none _, same) }) tried)
-    stop_promise (stop.Broken rule) status (finds, same) cause (inl tells) = broken_promise (Run file) is_read rule status finds asked same cause tells
-    stop_promise (stop.Broken rule) status (finds, same) cause (inr (tried, e)) = at_status (Run file) is_read Memory status e (memory_promise (Run file) is_read (files_of folder.files None) (files_told folder.files None) same cause (record { asked = asked; printed = ([], prefix_none _, same) }) tried)
-    stop_promise stop.NotBuilt status (finds, same) cause (tried, e) = at_status (Run file) is_read NotBuilt status e (not_built_promise (Run file) is_read finds asked same cause tried)
-    stop_promise stop.Folder status same cause (tried, e) = at_status (Run file) is_read FolderFault status e (folder_promise (Run file) is_read (files_of folder.files None) (files_told folder.files None) same cause (record { asked = asked; printed = same }) tried)
-    stop_promise stop.Sink status ran cause (tried, e) = at_status (Run file) is_read SinkFault status e (run_sink_promise ran cause tried)
-    stop_promise stop.Mem status same cause (tried, e) = at_status (Run file) is_read Memory status e (memory_promise (Run file) is_read (files_of folder.files None) (files_told folder.files None) same cause (record { asked = asked; printed = ([], prefix_none _, same) }) tried)
+    -- the program was not run to its end
+    pub stop_promise : (why : Stop) (status : Status) → RunsFiles names folder folder' out out' (Err why) → HasCause (is_folder_fault {A = ℕ} (Err why)) folder.faults folder'.faults → TellsStop why note note' status → Promise words before after status
+    stop_promise stop.Sink status ran cause (tried, e) = at_status (Run names) is_read SinkFault status e (run_sink_promise ran cause tried)
+    stop_promise (stop.NoFile name) status (stops, same) cause tells = stopped_promise (Run names) is_read (stop.NoFile name) status stops same cause tells
+    stop_promise (stop.Broken name rule) status (stops, same) cause tells = stopped_promise (Run names) is_read (stop.Broken name rule) status stops same cause tells
+    stop_promise stop.NotBuilt status (stops, same) cause tells = stopped_promise (Run names) is_read stop.NotBuilt status stops same cause tells
+    stop_promise stop.Folder status (stops, same) cause tells = stopped_promise (Run names) is_read stop.Folder status stops same cause tells
+    stop_promise stop.Mem status (stops, same) cause tells = stopped_promise (Run names) is_read stop.Mem status stops same cause tells
 
-  -- `emit` of a file
-  module _ (name file : List ℕ) (is_read : command_of words ≡ Some (Emit name file)) where
+  -- `emit` of files
+  module _ (name : List ℕ) (names : List (List ℕ)) (is_read : command_of words ≡ Some (Emit name names)) where
     abbrev command : Command
-    command = Emit name file
-
-    -- what a straight file answers
-    emit_answers : (files : Contents) (input bytes : List ℕ) (program : Straight) → files file ≡ Some bytes → first_broken bytes ≡ None → straight_of bytes ≡ Some program → answer_of words files input ≡ emitted name (written program) files input
-    emit_answers files input bytes program found accepted some = answer_straight words files input command bytes program is_read found accepted some
-
-    -- a straight file that was found is held
-    holds : (files : Contents) (bytes : List ℕ) (program : Straight) → files file ≡ Some bytes → first_broken bytes ≡ None → straight_of bytes ≡ Some program → HoldsStraight files file program
-    holds files bytes program found accepted some = (bytes, found, none_found bytes accepted, straight_sound bytes program some)
+    command = Emit name names
 
     -- a prefix of the line is on `out`
-    line_prefix : (files : Contents) (input bytes : List ℕ) (program : Straight) (result : Result (Unit {0}) Failed) → IsTold source.left input → files file ≡ Some bytes → first_broken bytes ≡ None → straight_of bytes ≡ Some program → Put (emitted_line (c_name name) (written program)) out out' result → GoesNoFurther (answer_of words files input) input before after
-    line_prefix files input bytes program result is_left found accepted some put = record {
+    line_prefix : (input : List ℕ) (program : Straight) (told : Accepted folder.files names (Some program)) (result : Result (Unit {0}) Failed) → IsTold source.left input → Put (emitted_line (c_name name) (written program)) out out' result → GoesNoFurther (answer_of words told.files input) input before after
+    line_prefix input program told result is_left put = record {
       out = each_some out.held _ (λ held e.
           let prefix = gave_prefix out.held out'.held held (emitted_line (c_name name) (written program)) result e put.taken in
-          (prefix.0, subst (λ whole. IsPrefix prefix.0 whole) (sym (ap (λ answer. answer.out) (emit_answers files input bytes program found accepted some))) prefix.1, prefix.2));
-      taken = takes_nothing files input is_left;
+          (prefix.0, subst (λ whole. IsPrefix prefix.0 whole) (sym (ap (λ answer. answer.out) (answers_straight command is_read program told input))) prefix.1, prefix.2));
+      taken = takes_nothing told.files input is_left;
     }
 
     -- the C was written
-    emits : (files : Contents) (status : Status) → WroteC name file files before after → ((value : ℕ) → status ≡ Exit value → value ≡ 0) → Emits words files before after status
-    emits files status wrote_c zero other_name other_file asks =
-        let same : command ≡ Emit other_name other_file = same_command command is_read (Emit other_name other_file) asks in
+    emits : (files : Contents) (status : Status) → WroteC name names files before after → ((value : ℕ) → status ≡ Exit value → value ≡ 0) → Emits words files before after status
+    emits files status wrote_c zero other_name other_names asks =
+        let same : command ≡ Emit other_name other_names = same_command command is_read (Emit other_name other_names) asks in
         let same_name : name ≡ other_name = cc in
-        let same_file : file ≡ other_file = cc in
-        let wrote : WroteC other_name other_file files before after = subst (λ f. WroteC other_name f files before after) same_file (subst (λ n. WroteC n file files before after) same_name wrote_c) in
+        let same_names : names ≡ other_names = cc in
+        let wrote : WroteC other_name other_names files before after = subst (λ ns. WroteC other_name ns files before after) same_names (subst (λ n. WroteC n names files before after) same_name wrote_c) in
         record { done = λ value e. (zero value e, wrote); not_told = λ e more. wrote }
 
-    -- what was written is the C of the file
-    wrote_c_of : (files : Contents) (bytes : List ℕ) (program : Straight) → IsTold folder.files files → HoldsStraight files file program → straight_of bytes ≡ Some program → AskedAndWrote (c_name name) (written program) (Ok tt) folder folder' → CText (written program) (lined (tree_of program)) → WroteC name file files before after
-    wrote_c_of files bytes program is_told held some wrote is_text = record {
-      program = program;
-      source = held;
-      folder = written_told folder.files folder'.files files (c_name name) (written program) is_told wrote.gives;
-      is_c = text_is_c program (straight_sound bytes program some).well_formed is_text;
-    }
+    -- what was written is the C of the program
+    wrote_c_of : (program : Straight) (told : Accepted folder.files names (Some program)) → AskedAndWrote names (c_name name) (written program) (Ok tt) folder folder' → CText (written program) (lined (tree_of program)) → WroteC name names told.files before after
+    wrote_c_of program told wrote is_text =
+        let straight = held command is_read program told in
+        record {
+          program = program;
+          source = straight;
+          folder = written_told folder.files folder'.files told.files (c_name name) (written program) told.is_told wrote.gives;
+          is_c = text_is_c program straight.3.2.well_formed is_text;
+        }
 
     -- the C was written and told
-    pub emit_promise : TellsC name file folder folder' out out' (Ok tt) → HasCause false folder.faults folder'.faults → note' ≡ note → Promise words before after (Exit 0)
-    emit_promise (program, (bytes, finds, accepted, some), wrote, is_text, put) cause quiet =
-        let files = files_of folder.files (Some bytes) in
+    pub emit_promise : TellsC name names folder folder' out out' (Ok tt) → HasCause false folder.faults folder'.faults → note' ≡ note → Promise words before after (Exit 0)
+    emit_promise tells cause quiet =
+        let program = tells.program in
+        let told = told_accepted tells.writes.finds in
+        let files = told.files in
         let input = input_of source.left in
-        let is_told = files_told folder.files (Some bytes) in
         let is_left = input_told source.left in
-        let found = files_found folder.files file (Some bytes) finds in
-        let held = holds files bytes program found accepted some in
-        let e = emit_answers files input bytes program found accepted some in
+        let straight = held command is_read program told in
+        let e = answers_straight command is_read program told input in
         let line = emitted_line (c_name name) (written program) in
-        let calm : out'.faults ≡ out.faults = put.cause.stayed refl in
+        let calm : out'.faults ≡ out.faults = tells.told.cause.stayed refl in
         let same : note'.faults ≡ note.faults = ap (λ n. n.faults) quiet in
-        let there = written_told folder.files folder'.files files (c_name name) (written program) is_told wrote.gives in
         let did : Did (answer_of words files input) before after (Exit 0) =
         subst (λ answer. Did answer before after (Exit 0)) (sym e)
         (record {
           same_status = refl;
-          files = there;
-          out = each_some out.held _ (λ held g. gave out.held out'.held held line g put.taken);
+          files = written_told folder.files folder'.files files (c_name name) (written program) told.is_told tells.writes.wrote.gives;
+          out = each_some out.held _ (λ held g. gave out.held out'.held held line g tells.told.taken);
           note = each_some note.held _ (λ held g. ap (λ n. n.held) quiet ∙ (g ∙ ap Some (sym (append-nil held))));
           rest = told_is source.left input is_left;
-        }) in
-        let wrote_c = wrote_c_of files bytes program is_told held some wrote is_text in (
+        }) in (
           files,
           input,
-          is_told,
+          told.is_told,
           is_left,
           keeps words files input before after (Exit 0)
               (λ calm. inl did)
               (λ _. did)
-              (emits files (Exit 0) wrote_c (λ value e. let zero : value ≡ 0 = cc in zero))
-              (omega arith, (command, program, reads command is_read, held, refl))
+              (emits files (Exit 0) (wrote_c_of program told tells.writes.wrote tells.is_text) (λ value e. let zero : value ≡ 0 = cc in zero))
+              (omega arith, (command, program, reads command is_read, straight, refl))
               (subst (λ meant. Settles before after meant (Exit 0)) (sym (ap (λ answer. answer.status) e)) (inl (inl refl)))
+              (λ none. absurd (begins command is_read none))
               (hides_note (Exit 0) (cause.stayed refl) calm (λ lt. absurd (omega arith)))
-              (grows cause.no_lower (omega arith) (omega arith))
-              (line_prefix files input bytes program (Ok tt) is_left found accepted some put)
-              (acts command is_read files (answer_of words files input) (Exit 0) ((program, held, wrote), subst (λ answer. Put answer.out out out' (Ok tt)) (sym e) put))
+              (grows cause (stays_grown out.faults out'.faults calm) (omega arith, omega arith))
+              (line_prefix input program told (Ok tt) is_left tells.told)
+              (acts command is_read files (answer_of words files input) (Exit 0) (inr ((program, straight, tells.writes.wrote), subst (λ answer. Put answer.out out out' (Ok tt)) (sym e) tells.told)))
               quiet
               refl,
         )
 
     -- the line was refused
-    emit_sink_promise : TellsC name file folder folder' out out' (Err (record {})) → HasCause false folder.faults folder'.faults → Tried output_fault_line note note' → Promise words before after SinkFault
-    emit_sink_promise (program, (bytes, finds, accepted, some), wrote, is_text, put) cause tried =
-        let files = files_of folder.files (Some bytes) in
+    emit_sink_promise : TellsC name names folder folder' out out' (Err (record {})) → HasCause false folder.faults folder'.faults → Tried output_fault_line note note' → Promise words before after SinkFault
+    emit_sink_promise tells cause tried =
+        let program = tells.program in
+        let told = told_accepted tells.writes.finds in
         let input = input_of source.left in
-        let is_left = input_told source.left in
-        let found = files_found folder.files file (Some bytes) finds in
-        let e = emit_answers files input bytes program found accepted some in
-        let rose : Rose out.faults out'.faults = put.cause.rose refl in
-        sink_promise command is_read files (files_told folder.files (Some bytes))
-        (line_prefix files input bytes program (Err (record {})) is_left found accepted some put)
+        let e = answers_straight command is_read program told input in
+        let rose : Rose out.faults out'.faults = tells.told.cause.rose refl in
+        sink_promise command is_read told.files told.is_told
+        (line_prefix input program told (Err (record {})) (input_told source.left) tells.told)
         (subst (λ answer. Excused before after answer.status) (sym e) (inr rose))
-        rose put.cause.no_lower cause
-        (emits files SinkFault (wrote_c_of files bytes program (files_told folder.files (Some bytes)) (holds files bytes program found accepted some) some wrote is_text) (λ value e. absurd (cc e)))
-        (inl (rose, (program, holds files bytes program found accepted some, wrote), subst (λ answer. Put answer.out out out' (Err (record {}))) (sym e) put))
+        rose (tells.told.cause.no_lower, tells.told.cause.by_one) cause
+        (emits told.files SinkFault (wrote_c_of program told tells.writes.wrote tells.is_text) (λ value e. absurd (cc e)))
+        (inr ((program, held command is_read program told, tells.writes.wrote), subst (λ answer. Put answer.out out out' (Err (record {}))) (sym e) tells.told))
         tried
 
     -- the write was refused
-    write_fault_promise : WritesC name file folder folder' (Err refused.Failed) → out' ≡ out → HasCause true folder.faults folder'.faults → Tried folder_fault_line note note' → Promise words before after FolderFault
-    write_fault_promise (program, (bytes, finds, accepted, some), wrote) same cause tried =
-        let files = files_of folder.files (Some bytes) in
-        folder_promise command is_read files (files_told folder.files (Some bytes)) same cause
-        (inr (program, holds files bytes program (files_found folder.files file (Some bytes) finds) accepted some, wrote), same)
-        tried
+    write_fault_promise : WritesC name names folder folder' (Err refused.Failed) → out' ≡ out → HasCause true folder.faults folder'.faults → Tried folder_fault_line note note' → Promise words before after FolderFault
+    write_fault_promise (program, writes) same cause tried =
+        let told = told_accepted writes.finds in
+        folder_promise command is_read told.files told.is_told same cause (inr ((program, held command is_read program told, writes.wrote), same)) tried
 
     -- memory ran out in the write
-    write_memory_promise : WritesC name file folder folder' (Err refused.Mem) → out' ≡ out → HasCause false folder.faults folder'.faults → Tried no_memory_line note note' → Promise words before after Memory
-    write_memory_promise (program, (bytes, finds, accepted, some), wrote) same cause tried =
-        let files = files_of folder.files (Some bytes) in
-        memory_promise command is_read files (files_told folder.files (Some bytes)) same cause
-        (inr (program, holds files bytes program (files_found folder.files file (Some bytes) finds) accepted some, wrote), same)
-        tried
+    write_memory_promise : WritesC name names folder folder' (Err refused.Mem) → out' ≡ out → HasCause false folder.faults folder'.faults → Tried no_memory_line note note' → Promise words before after Memory
+    write_memory_promise (program, writes) same cause tried =
+        let told = told_accepted writes.finds in
+        memory_promise command is_read told.files told.is_told same cause (inr ((program, held command is_read program told, writes.wrote), same)) tried
 
-    -- the C was not written
-    pub refused_promise : (why : Stop) (status : Status) → EmitsFile name file folder folder' out out' (Err why) → HasCause (is_folder_fault {A = Unit {0}} (Err why)) folder.faults folder'.faults → TellsStop file why note note' status → Promise words before after status
-    refused_promise stop.NoFile status (finds, asked, same) cause (inl tells) = no_file_promise command is_read status finds asked same cause tells
-    refused_promise stop.NoFile status (finds, asked, same) cause (inr (tried, e)) = at_status command is_read Memory status e (memory_promise command is_read (files_of folder.files None) (files_told folder.files None) same cause (inl asked, same) tried)
-    refused_promise (stop.Broken rule) status (finds, asked, same) cause (inl tells) = broken_promise command is_read rule status finds asked same cause tells
-    refused_promise (stop.Broken rule) status (finds, asked, same) cause (inr (tried, e)) = at_status command is_read Memory status e (memory_promise command is_read (files_of folder.files None) (files_told folder.files None) same cause (inl asked, same) tried)
-    refused_promise stop.NotBuilt status (finds, asked, same) cause (tried, e) = at_status command is_read NotBuilt status e (not_built_promise command is_read finds asked same cause tried)
-    refused_promise stop.Folder status (inl asked, same) cause (tried, e) = at_status command is_read FolderFault status e (folder_promise command is_read (files_of folder.files None) (files_told folder.files None) same cause (inl asked, same) tried)
-    refused_promise stop.Folder status (inr wrote, same) cause (tried, e) = at_status command is_read FolderFault status e (write_fault_promise wrote same cause tried)
+    -- the C was not written, or not told
+    pub refused_promise : (why : Stop) (status : Status) → EmitsFiles name names folder folder' out out' (Err why) → HasCause (is_folder_fault {A = Unit {0}} (Err why)) folder.faults folder'.faults → TellsStop why note note' status → Promise words before after status
     refused_promise stop.Sink status told cause (tried, e) = at_status command is_read SinkFault status e (emit_sink_promise told cause tried)
-    refused_promise stop.Mem status (inl asked, same) cause (tried, e) = at_status command is_read Memory status e (memory_promise command is_read (files_of folder.files None) (files_told folder.files None) same cause (inl asked, same) tried)
+    refused_promise stop.Folder status (inl asked, same) cause tells = stopped_promise command is_read stop.Folder status asked same cause tells
+    refused_promise stop.Folder status (inr wrote, same) cause (tried, e) = at_status command is_read FolderFault status e (write_fault_promise wrote same cause tried)
+    refused_promise stop.Mem status (inl asked, same) cause tells = stopped_promise command is_read stop.Mem status asked same cause tells
     refused_promise stop.Mem status (inr wrote, same) cause (tried, e) = at_status command is_read Memory status e (write_memory_promise wrote same cause tried)
+    refused_promise (stop.NoFile other) status (stops, same) cause tells = stopped_promise command is_read (stop.NoFile other) status stops same cause tells
+    refused_promise (stop.Broken other rule) status (stops, same) cause tells = stopped_promise command is_read (stop.Broken other rule) status stops same cause tells
+    refused_promise stop.NotBuilt status (stops, same) cause tells = stopped_promise command is_read stop.NotBuilt status stops same cause tells

@@ -1,5 +1,5 @@
 -- Bytes that are put one after another, each by a call of its own.
-use Rattle.std.proofs.Common.{◌≡◌, ℕ, suc, ◌<◌, ◌≤◌, List, [], ◌∷◌, ◌++◌, length, take, drop, get_or, Some, refl, sym, ap, ◌∙◌, subst, append_assoc, append-nil, inl, inr}
+use Rattle.std.proofs.Common.{◌≡◌, ℕ, ◌+◌, suc, ◌<◌, ◌≤◌, List, [], ◌∷◌, ◌++◌, length, take, drop, get_or, Some, refl, sym, ap, ◌∙◌, subst, append_assoc, append-nil, inl, inr}
 use Rattle.std.specs.Prelude.{Result, Ok, Err}
 use Rattle.std.proofs.Math.Seq.{drop-cons}
 use Rattle.std.proofs.lemmas.List.{take-append-drop}
@@ -57,8 +57,8 @@ printed_calm [] a b h = ap (λ s. s.faults) h
 printed_calm (x ∷ xs) a b (inl (m, put, rest)) = printed_calm xs m b rest ∙ put.cause.stayed refl
 printed_calm (x ∷ xs) a b (inr (f, put)) = absurd (cc f)
 
--- and it rose where one failed
-pub printed_rose : (xs : List ℕ) (a b : SinkState) (failed : Failed) → Prints xs a b (Err failed) → Rose a.faults b.faults × (a.faults ≤ b.faults)
+-- and it rose by one where one failed
+pub printed_rose : (xs : List ℕ) (a b : SinkState) (failed : Failed) → Prints xs a b (Err failed) → Rose a.faults b.faults × (a.faults ≤ b.faults) × (b.faults ≤ a.faults + 1)
 printed_rose [] a b failed h = absurd h
-printed_rose (x ∷ xs) a b failed (inl (m, put, rest)) = subst (λ n. Rose n b.faults × (n ≤ b.faults)) (put.cause.stayed refl) (printed_rose xs m b failed rest)
-printed_rose (x ∷ xs) a b failed (inr (f, put)) = (put.cause.rose refl, put.cause.no_lower)
+printed_rose (x ∷ xs) a b failed (inl (m, put, rest)) = subst (λ n. Rose n b.faults × (n ≤ b.faults) × (b.faults ≤ n + 1)) (put.cause.stayed refl) (printed_rose xs m b failed rest)
+printed_rose (x ∷ xs) a b failed (inr (f, put)) = (put.cause.rose refl, put.cause.no_lower, put.cause.by_one)

@@ -1,16 +1,17 @@
 -- Words are read exactly as they are meant.
-use Rattle.std.proofs.Common.{◌≡◌, ◌≢◌, ◌⊎◌, inl, inr, ℕ, zero, suc, List, [], ◌∷◌, ◌++◌, append_assoc, drop, Bool, true, false, ◌==◌, not, Option, Some, None, option_map, refl, sym, ap, ap₂, ◌∙◌, subst, cond, arith}
+use Rattle.std.proofs.Common.{◌≡◌, ◌≢◌, ◌⊎◌, inl, inr, ℕ, zero, suc, List, [], ◌∷◌, ◌++◌, length, append_assoc, drop, Bool, true, false, ◌==◌, not, ◌&&◌, nat_le, Option, Some, None, option_map, refl, sym, ap, ap₂, ◌∙◌, subst, cond, arith}
 use Rattle.std.specs.Prelude.{codes}
 use Rattle.std.specs.List.{All, Contains, starts_with}
 use Rattle.std.specs.Option.{option_and_then}
 use Rattle.std.specs.Str.{bytes_eq}
 use Rattle.std.proofs.lemmas.Slice.Eq.{bytes_eq-Decides, starts_is}
+use Rattle.std.proofs.lemmas.Bool.{le-leb, leb-true, and_from, and_parts}
 use Rattle.std.proofs.lemmas.Bool.Decides.{Decides-eqb}
 use Rattle.std.proofs.lemmas.List.Elements.{All-head, All-tail, All-nil, All-cons}
 use Rattle.std.proofs.lemmas.List.{append-nil}
 use Rattle.std.proofs.lemmas.Option.{cond_some, option_and_then_some}
-use Rattle.sl_tool.specs.Words.{Command, Run, Emit, IsPlainWord, IsJoined, value_options, Part, File, Given, GivesValue, IsPart, AreParts, HasParts, files_in, options_in, Gives, Reads, HasNoReading}
-use Rattle.sl_tool.specs.WordsReading.{is_plain, Kind, IsFile, Waits, HasValue, IsDashes, IsOther, kind_behind, kind_of, Gathered, nothing, with_file, with_name, gathered, run_given, emit_under, emit_given, run_words, emit_words, command_of}
+use Rattle.sl_tool.specs.Words.{Command, Run, Emit, most_files, AreEnough, IsPlainWord, IsJoined, value_options, Part, File, Given, GivesValue, IsPart, AreParts, HasParts, files_in, options_in, Gives, Reads, HasNoReading, BeginsNoCommand}
+use Rattle.sl_tool.specs.WordsReading.{is_plain, Kind, IsFile, Waits, HasValue, IsDashes, IsOther, kind_behind, kind_of, Gathered, nothing, with_file, with_name, gathered, are_enough, run_given, emit_under, emit_given, run_words, emit_words, command_of}
 use Rattle.sl_tool.specs.declared.words.Place.{Place}
 use Rattle.sl_tool.specs.declared.words.Place.TheVariants.{Among, BehindOption, BehindDashes}
 
@@ -109,19 +110,36 @@ gives_gathered : (options : List (List ℕ × List ℕ)) (files words : List (Li
 gives_gathered options files words (parts, more, has, e, f) =
     words_gathered parts more words has ∙ ap₂ (λ a b. Some (record { options = a; files = b })) e f
 
--- `emit` under a name that isn't empty
-under_name : (name file : List ℕ) → name ≢ [] → emit_under (codes "-o") name file ≡ Some (Emit name file)
-under_name [] file h = absurd (h refl)
-under_name (byte ∷ bytes) file h = refl
+-- as many files as a command may name pass the test
+passes_enough : (files : List (List ℕ)) → AreEnough files → are_enough (length files) ≡ true
+passes_enough files (some, few) =
+    and_from (nat_le 1 (length files)) (nat_le (length files) most_files) (le-leb 1 (length files) some) (le-leb (length files) most_files few)
+
+-- and files that pass it are as many
+are_so_many : (files : List (List ℕ)) → are_enough (length files) ≡ true → AreEnough files
+are_so_many files h =
+    let t = and_parts (nat_le 1 (length files)) (nat_le (length files) most_files) h in
+    (leb-true 1 (length files) t.0, leb-true (length files) most_files t.1)
+
+-- `run` of as many files as it may name
+run_enough : (files : List (List ℕ)) → AreEnough files → run_given [] files ≡ Some (Run files)
+run_enough files enough = rw (passes_enough files enough)
+
+-- `emit` of as many files as it may name, under a name that isn't empty
+emit_enough : (name : List ℕ) (files : List (List ℕ)) → name ≢ [] → AreEnough files → emit_under (codes "-o") name files ≡ Some (Emit name files)
+emit_enough [] files some enough = absurd (some refl)
+emit_enough (byte ∷ bytes) files some enough = rw (passes_enough files enough)
 
 -- the command of words that ask for it
 pub command_of_reading : (words : List (List ℕ)) (command : Command) → Reads words command → command_of words ≡ Some command
-command_of_reading words (Run file) (rest, e, gives) =
-    ap command_of e ∙ ap (λ found. option_and_then (λ found. run_given found.options found.files) found) (gives_gathered [] (file ∷ []) rest gives)
-command_of_reading words (Emit name file) (rest, e, some, gives) =
+command_of_reading words (Run files) (rest, e, enough, gives) =
     ap command_of e
-    ∙ ap (λ found. option_and_then (λ found. emit_given found.options found.files) found) (gives_gathered ((codes "-o", name) ∷ []) (file ∷ []) rest gives)
-    ∙ under_name name file some
+    ∙ ap (λ found. option_and_then (λ found. run_given found.options found.files) found) (gives_gathered [] files rest gives)
+    ∙ run_enough files enough
+command_of_reading words (Emit name files) (rest, e, some, enough, gives) =
+    ap command_of e
+    ∙ ap (λ found. option_and_then (λ found. emit_given found.options found.files) found) (gives_gathered ((codes "-o", name) ∷ []) files rest gives)
+    ∙ emit_enough name files some enough
 
 -- The parts of words --------------------------------------------------------------------------------------------------
 
@@ -231,32 +249,30 @@ gathered_means BehindDashes ((byte ∷ bytes) ∷ words) found h =
     let means = gathered_means BehindDashes words t.0 t.1 in
     (sym t.2 ∙ ap (with_file (byte ∷ bytes)) means.0, All-cons (λ name. name ≢ []) (byte ∷ bytes) words (λ none. cc) means.1)
 
--- words behind `run` that give one file and no option are read so
+-- words behind `run` that give as many files as it may name and no option are read so
 run_read : (options : List (List ℕ × List ℕ)) (files words : List (List ℕ)) (command : Command) → Gives options files words
     → run_given options files ≡ Some command → Reads (codes "run" ∷ words) command
-run_read [] [] words command gives h = absurd (cc h)
-run_read [] (file ∷ []) words command gives h =
-    let e : Run file ≡ command = cc in subst (λ c. Reads (codes "run" ∷ words) c) e (words, refl, gives)
-run_read [] (file ∷ other ∷ files) words command gives h = absurd (cc h)
+run_read [] files words command gives h =
+    let t = cond_some (are_enough (length files)) (Run files) command h in
+    subst (λ c. Reads (codes "run" ∷ words) c) t.1 (words, refl, are_so_many files t.0, gives)
 run_read (option ∷ options) files words command gives h = absurd (cc h)
 
--- words behind `emit` that give this file and this option are read so
-under_read : (option name file : List ℕ) (words : List (List ℕ)) (command : Command) → Gives ((option, name) ∷ []) (file ∷ []) words
-    → emit_under option name file ≡ Some command → Reads (codes "emit" ∷ words) command
-under_read option [] file words command gives h = absurd (cc h)
-under_read option (byte ∷ bytes) file words command gives h =
-    let t = cond_some (bytes_eq option (codes "-o")) (Emit (byte ∷ bytes) file) command h in
-    let is = (bytes_eq-Decides option (codes "-o")).0 t.0 in
+-- words behind `emit` that give these files and this option are read so
+under_read : (option name : List ℕ) (files words : List (List ℕ)) (command : Command) → Gives ((option, name) ∷ []) files words
+    → emit_under option name files ≡ Some command → Reads (codes "emit" ∷ words) command
+under_read option [] files words command gives h = absurd (cc h)
+under_read option (byte ∷ bytes) files words command gives h =
+    let t = cond_some (bytes_eq option (codes "-o") && are_enough (length files)) (Emit (byte ∷ bytes) files) command h in
+    let both = and_parts (bytes_eq option (codes "-o")) (are_enough (length files)) t.0 in
+    let is = (bytes_eq-Decides option (codes "-o")).0 both.0 in
     subst (λ c. Reads (codes "emit" ∷ words) c) t.1
-    (words, refl, (λ none. absurd (cc none)), subst (λ o. Gives ((o, byte ∷ bytes) ∷ []) (file ∷ []) words) is gives)
+    (words, refl, (λ none. absurd (cc none)), are_so_many files both.1, subst (λ o. Gives ((o, byte ∷ bytes) ∷ []) files words) is gives)
 
--- words behind `emit` that give one file and one option are read so
+-- words behind `emit` that give as many files as it may name and one option are read so
 emit_read : (options : List (List ℕ × List ℕ)) (files words : List (List ℕ)) (command : Command) → Gives options files words
     → emit_given options files ≡ Some command → Reads (codes "emit" ∷ words) command
 emit_read [] files words command gives h = absurd (cc h)
-emit_read (option ∷ []) [] words command gives h = absurd (cc h)
-emit_read (option ∷ []) (file ∷ []) words command gives h = under_read option.0 option.1 file words command gives h
-emit_read (option ∷ []) (file ∷ other ∷ files) words command gives h = absurd (cc h)
+emit_read (option ∷ []) files words command gives h = under_read option.0 option.1 files words command gives h
 emit_read (option ∷ other ∷ options) files words command gives h = absurd (cc h)
 
 -- words that have a command are read so
@@ -286,3 +302,13 @@ no_command words h = at (command_of words) refl
     at : (found : Option Command) → command_of words ≡ found → command_of words ≡ None
     at None e = e
     at (Some command) e = absurd (h command (reading_of_command words command e))
+
+-- nor have words whose first one is none
+pub begins_none : (words : List (List ℕ)) → BeginsNoCommand words → command_of words ≡ None
+begins_none [] begins = refl
+begins_none (word ∷ words) begins = at (bytes_eq word (codes "run")) refl (bytes_eq word (codes "emit")) refl
+  where
+    at : (a : Bool) → bytes_eq word (codes "run") ≡ a → (b : Bool) → bytes_eq word (codes "emit") ≡ b → cond a (run_words words) (cond b (emit_words words) None) ≡ None
+    at true e b f = absurd (begins.0 ((bytes_eq-Decides word (codes "run")).0 e))
+    at false e true f = absurd (begins.1 ((bytes_eq-Decides word (codes "emit")).0 f))
+    at false e false f = refl

@@ -5,21 +5,15 @@ use Rattle.sl_outside.specs.Folder.{Contents, ReadGives}
 use Rattle.sl_tool.specs.Outside.{IsTold}
 use Rattle.sl_tool.specs.Parts.{Finds}
 
--- what a folder tells, or else contents in which every name has this
-pub files_of : Option Contents → Option (List ℕ) → Contents
-files_of None found = λ _. found
-files_of (Some held) found = held
+-- what a folder tells, or else contents that have nothing
+pub told_files : Option Contents → Contents
+told_files None = λ _. None
+told_files (Some held) = held
 
-pub files_told : (told : Option Contents) (found : Option (List ℕ)) → IsTold told (files_of told found)
-unfolding files_of
-files_told None found = tt
-files_told (Some held) found = refl
-
--- where a file was found, it is found there
-pub files_found : (told : Option Contents) (file : List ℕ) (found : Option (List ℕ)) → Finds told file found → files_of told found file ≡ found
-unfolding files_of
-files_found None file found h = refl
-files_found (Some held) file found h = h
+pub files_told : (told : Option Contents) → IsTold told (told_files told)
+unfolding told_files
+files_told None = tt
+files_told (Some held) = refl
 
 -- what an input tells, or else nothing
 pub input_of : Option (List ℕ) → List ℕ

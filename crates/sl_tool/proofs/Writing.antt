@@ -1,19 +1,22 @@
 -- What a folder holds where bytes were written under a name.
-use Rattle.std.proofs.Common.{◌≡◌, ℕ, List, Bool, true, false, Option, Some, None, refl, sym, ap, ◌∙◌, subst, inr}
+use Rattle.std.proofs.Common.{◌≡◌, ℕ, List, [], ◌∷◌, Bool, true, false, Option, Some, None, refl, sym, ap, ◌∙◌, subst, inr}
 use Rattle.std.specs.Prelude.{IfSome, IsSomeAnd, Result, Ok, Err, IsErrAnd, cond}
 use Rattle.std.specs.Str.{bytes_eq}
 use Rattle.std.proofs.lemmas.Slice.Eq.{bytes_eq-Decides}
 use Rattle.sl_outside.specs.declared.folder.Refused.{Refused}
 use Rattle.sl_outside.specs.declared.folder.Refused.TheVariants as refused
 use Rattle.sl_outside.specs.Counts.{HasCause, one_more}
-use Rattle.sl_outside.specs.Folder.{Contents, OthersStay, WriteGives, is_fault, FolderState, folder_state}
+use Rattle.sl_outside.specs.Folder.{Contents, OthersStay, WriteGives, is_fault, WriteCall, GoesOn, FolderState}
 use Rattle.sl_outside.specs.Sink.{SinkState}
 use Rattle.sl_tool.specs.declared.stop.Stop.{Stop}
+use Rattle.sl_tool.specs.declared.straight.Straight.{Straight}
+use Rattle.sl_tool.specs.Tree.{written}
 use Rattle.sl_tool.specs.Stopping.{stop_of}
-use Rattle.sl_tool.specs.Parts.{is_folder_fault, WritesC, EmitsFile}
-use Rattle.sl_tool.specs.Answer.{with_file}
+use Rattle.sl_tool.specs.Parts.{is_folder_fault, FindsAccepted, WritesProgram, WritesC, EmitsFiles}
+use Rattle.sl_tool.specs.Answer.{c_name, with_file}
 use Rattle.sl_tool.specs.Outside.{IsTold}
-use Rattle.sl_tool.specs.Promise.{AskedAndWrote}
+use Rattle.sl_tool.specs.Promise.{reads_of}
+use Rattle.sl_tool.proofs.Asking.{goes_on}
 
 -- under a name that is tested to be this one or not
 at_name : (old new : Contents) (name bytes other : List ℕ) → new name ≡ Some bytes → OthersStay name old new → (same : Bool) → bytes_eq other name ≡ same → new other ≡ cond same (Some bytes) (old other)
@@ -33,20 +36,29 @@ pub written_told : (before after : Option Contents) (files : Contents) (name byt
 written_told None after files name bytes told h = tt
 written_told (Some old) after files name bytes told h = some_with_file old after name bytes h ∙ ap (λ files. Some (with_file files name bytes)) told
 
--- the folder was asked once, and then bytes were written under a name
-pub asked_and_wrote : (name bytes target sent : List ℕ) (before read after : Option Contents) (faults faults' calls calls' calls'' : ℕ) (result : Result (Unit {0}) Refused) → read ≡ before → calls' ≡ one_more calls → calls'' ≡ one_more calls' → target ≡ name → sent ≡ bytes → WriteGives read after target sent result → AskedAndWrote name bytes result (folder_state before faults calls) (folder_state after faults' calls'')
-asked_and_wrote name bytes target sent before read after faults faults' calls calls' calls'' result same one two named sends gives = record {
-  twice = two ∙ ap one_more one;
-  gives =
-      subst (λ files. WriteGives files after name bytes result) same
-      (subst (λ bytes. WriteGives read after name bytes result) sends (subst (λ name. WriteGives read after name sent result) named gives));
+-- the program was read, and then its C was written
+pub program_written : (name : List ℕ) (names : List (List ℕ)) (program : Straight) (before read after : FolderState) (target sent : List ℕ) (result : Result (Unit {0}) Refused) → FindsAccepted names (Some program) before read → after.calls ≡ one_more read.calls → target ≡ c_name name → sent ≡ written program → WriteGives read.files after.files target sent result → GoesOn read.log after.log (WriteCall target sent result ∷ []) → WritesProgram name names program before after result
+program_written name names program before read after target sent result finds once named sends gives goes = record {
+  read = read;
+  finds = finds;
+  wrote = record {
+    calls = once ∙ ap one_more finds.finds.calls;
+    gives =
+        subst (λ files. WriteGives files after.files (c_name name) (written program) result) finds.finds.unchanged
+        (subst (λ bytes. WriteGives read.files after.files (c_name name) bytes result) sends (subst (λ name. WriteGives read.files after.files name sent result) named gives));
+    sources = finds.sources;
+    named = finds.finds.named;
+    log =
+        goes_on before.log read.log after.log (reads_of finds.sources) (WriteCall (c_name name) (written program) result ∷ []) finds.finds.log
+        (subst (λ bytes. GoesOn read.log after.log (WriteCall (c_name name) bytes result ∷ [])) sends (subst (λ name. GoesOn read.log after.log (WriteCall name sent result ∷ [])) named goes));
+  };
 }
 
 -- a write that was refused stops `emit` for what it was refused for
-pub write_refused : (name file : List ℕ) (before after : FolderState) (out : SinkState) (why : Refused) (result : Result (Unit {0}) Stop) → IsErrAnd result (λ stop. stop ≡ stop_of why) → WritesC name file before after (Err why) → EmitsFile name file before after out out result
-write_refused name file before after out why (Ok done) is wrote = absurd is
-write_refused name file before after out refused.Failed (Err stop) is wrote = subst (λ stop. EmitsFile name file before after out out (Err stop)) (sym is) (inr wrote, refl)
-write_refused name file before after out refused.Mem (Err stop) is wrote = subst (λ stop. EmitsFile name file before after out out (Err stop)) (sym is) (inr wrote, refl)
+pub write_refused : (name : List ℕ) (names : List (List ℕ)) (before after : FolderState) (out : SinkState) (why : Refused) (result : Result (Unit {0}) Stop) → IsErrAnd result (λ stop. stop ≡ stop_of why) → WritesC name names before after (Err why) → EmitsFiles name names before after out out result
+write_refused name names before after out why (Ok done) is wrote = absurd is
+write_refused name names before after out refused.Failed (Err stop) is wrote = subst (λ stop. EmitsFiles name names before after out out (Err stop)) (sym is) (inr wrote, refl)
+write_refused name names before after out refused.Mem (Err stop) is wrote = subst (λ stop. EmitsFiles name names before after out out (Err stop)) (sym is) (inr wrote, refl)
 
 -- and it is a fault of the folder just where the write was refused for one
 pub write_refused_cause : (why : Refused) (result : Result (Unit {0}) Stop) (before after : ℕ) → IsErrAnd result (λ stop. stop ≡ stop_of why) → HasCause (is_fault {A = Unit {0}} (Err why)) before after → HasCause (is_folder_fault result) before after

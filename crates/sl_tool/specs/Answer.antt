@@ -1,5 +1,5 @@
 -- The tool as one function: what a call answers and leaves where nothing fails and memory is enough.
-use Rattle.std.specs.Prelude.{ℕ, ℤ, pos, negsuc, List, [], ◌++◌, Option, Some, None, nat_le, if◌then◌else◌, codes}
+use Rattle.std.specs.Prelude.{ℕ, ℤ, pos, negsuc, List, [], ◌++◌, Option, Some, None, Result, Ok, Err, nat_le, if◌then◌else◌, codes}
 use Rattle.std.specs.Str.{bytes_eq}
 use Rattle.sl_outside.specs.Folder.{Contents}
 use Rattle.sl_run.specs.Run.{Ending, Done, Halt, TurnsSpent, StackSpent, Stuck}
@@ -7,12 +7,12 @@ use Rattle.sl_run.specs.Outcome.{Outcome, printed}
 use Rattle.sl_tool.specs.declared.status.Status.{Status}
 use Rattle.sl_tool.specs.declared.status.Status.TheVariants as status
 use Rattle.sl_tool.specs.declared.straight.Straight.{Straight}
-use Rattle.sl_tool.specs.StraightReading.{straight_of}
 use Rattle.sl_text.specs.declared.rule.Rule.{Rule}
-use Rattle.sl_tool.specs.Accepting.{first_broken, line_at, column_at}
+use Rattle.sl_tool.specs.Accepting.{line_at, column_at}
+use Rattle.sl_tool.specs.SourceFiles.{SourceFile, sources_of, first_broken_of, program_of}
 use Rattle.sl_tool.specs.Meaning.{run_of}
 use Rattle.sl_tool.specs.Tree.{written}
-use Rattle.sl_tool.specs.Words.{Command, Run, Emit, file_of}
+use Rattle.sl_tool.specs.Words.{Command, Run, Emit, files_of}
 use Rattle.sl_tool.specs.WordsReading.{command_of}
 use Rattle.sl_tool.specs.Texts.{emitted_line, usage_line, broken_line, no_file_line, turns_spent_line, stack_spent_line, exit_value_line, not_built_line}
 
@@ -94,28 +94,29 @@ emitted name text files input = record { status = status.Exit 0; files = with_fi
 
 -- what a command does with a straight program
 abbrev pub answer_to_straight : Command → Straight → Contents → List ℕ → Answer
-answer_to_straight (Run file) program files input = ran (run_of program input default_turns) files
-answer_to_straight (Emit name file) program files input = emitted name (written program) files input
+answer_to_straight (Run names) program files input = ran (run_of program input default_turns) files
+answer_to_straight (Emit name names) program files input = emitted name (written program) files input
 
 -- a command's answer to what was read: a straight program, or something that isn't built yet
 abbrev pub answer_to_program : Command → Option Straight → Contents → List ℕ → Answer
 answer_to_program command None files input = rejected status.NotBuilt not_built_line files input
 answer_to_program command (Some program) files input = answer_to_straight command program files input
 
--- a command's answer to bytes that break this rule first, or none
-abbrev pub answer_to_source : Command → List ℕ → Option Rule → Contents → List ℕ → Answer
-answer_to_source command bytes (Some rule) files input = rejected status.Broken (broken_line (file_of command) (line_at bytes 0) (column_at bytes 0) rule) files input
-answer_to_source command bytes None files input = answer_to_program command (straight_of bytes) files input
+-- a command's answer to sources of which this one is the first that breaks a rule, and that rule, or none
+abbrev pub answer_to_sources : Command → List SourceFile → Option (SourceFile × Rule) → Contents → List ℕ → Answer
+answer_to_sources command sources (Some broken) files input =
+    rejected status.Broken (broken_line broken.0.name (line_at broken.0.bytes 0) (column_at broken.0.bytes 0) broken.1) files input
+answer_to_sources command sources None files input = answer_to_program command (program_of sources) files input
 
--- a command's answer to a file that has these bytes, or isn't there
-abbrev pub answer_to_file : Command → Option (List ℕ) → Contents → List ℕ → Answer
-answer_to_file command None files input = rejected status.NoFile (no_file_line (file_of command)) files input
-answer_to_file command (Some bytes) files input = answer_to_source command bytes (first_broken bytes) files input
+-- a command's answer to the sources that it names, or to the first name that isn't there
+abbrev pub answer_to_files : Command → Result (List SourceFile) (List ℕ) → Contents → List ℕ → Answer
+answer_to_files command (Err name) files input = rejected status.NoFile (no_file_line name) files input
+answer_to_files command (Ok sources) files input = answer_to_sources command sources (first_broken_of sources) files input
 
 -- the answer to a command, or to words that have no reading
 abbrev pub answer_to : Option Command → Contents → List ℕ → Answer
 answer_to None files input = rejected status.Usage usage_line files input
-answer_to (Some command) files input = answer_to_file command (files (file_of command)) files input
+answer_to (Some command) files input = answer_to_files command (sources_of files (files_of command)) files input
 
 -- the answer to these words, over these files and this input
 unfoldable pub answer_of : List (List ℕ) → Contents → List ℕ → Answer

@@ -1,6 +1,7 @@
 pub mod Straight
 pub mod StraightReading
 pub mod Accepting
+pub mod SourceFiles
 pub mod Meaning
 pub mod Tree
 pub mod Words

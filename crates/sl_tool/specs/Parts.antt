@@ -1,24 +1,25 @@
 -- What the private functions of the crate owe.
-use Rattle.std.specs.Prelude.{◌≡◌, ◌⊎◌, ℕ, List, Option, Some, None, IfSome, Result, Ok, Err, Bool, true, false}
+use Rattle.std.specs.Prelude.{◌≡◌, ◌⊎◌, ℕ, List, length, map, option_map, Option, Some, None, IfSome, Result, Ok, Err, Bool, true, false}
+use Rattle.std.specs.Borrow.{Bor}
 use Rattle.sl_outside.specs.declared.folder.Refused.{Refused}
 use Rattle.sl_outside.specs.declared.folder.Refused.TheVariants as refused
 use Rattle.sl_outside.specs.declared.source.Failed.{Failed}
-use Rattle.sl_outside.specs.Folder.{Contents, FolderState}
+use Rattle.sl_outside.specs.Folder.{Contents, GoesOn, FolderState}
 use Rattle.sl_outside.specs.Sink.{SinkState, Put, Tried, Prints}
 use Rattle.c_tree.specs.Text.{CText}
 use Rattle.c_write.specs.Lined.{lined}
 use Rattle.sl_tool.specs.declared.stop.Stop.{Stop}
 use Rattle.sl_tool.specs.declared.stop.Stop.TheVariants as stop
+use Rattle.sl_tool.specs.declared.source.SourceFile as found
 use Rattle.sl_tool.specs.declared.status.Status.{Status}
 use Rattle.sl_tool.specs.declared.status.Status.TheVariants.{Broken, NoFile, FolderFault, SinkFault, Memory, NotBuilt}
 use Rattle.sl_tool.specs.declared.straight.Straight.{Straight}
 use Rattle.sl_tool.specs.Straight.{ended}
 use Rattle.sl_text.specs.declared.rule.Rule.{Rule}
-use Rattle.sl_tool.specs.Accepting.{first_broken}
-use Rattle.sl_tool.specs.StraightReading.{straight_of}
+use Rattle.sl_tool.specs.SourceFiles.{SourceFile, names_of, AreSources, first_broken_of, program_of}
 use Rattle.sl_tool.specs.Tree.{tree_of, written}
 use Rattle.sl_tool.specs.Answer.{c_name}
-use Rattle.sl_tool.specs.Promise.{Asked, AskedAndWrote}
+use Rattle.sl_tool.specs.Promise.{more_calls, reads_of, AskedUpTo, AskedForSome, AskedAndWrote}
 use Rattle.sl_tool.specs.Texts.{emitted_line, broken_line, no_file_line, folder_fault_line, output_fault_line, no_memory_line, not_built_line}
 
 -- a line was put, or it was refused, and the line that says so was tried
@@ -32,70 +33,114 @@ abbrev pub is_folder_fault : {A : Type 0} → Result A Stop → Bool
 is_folder_fault (Err stop.Folder) = true
 is_folder_fault other = false
 
--- the folder has this under the file's name, where it tells
+-- the name of a source that breaks a rule, and the rule
+abbrev pub broken_name : Option (SourceFile × Rule) → Option (List ℕ × Rule)
+broken_name broken = option_map {U = List ℕ × Rule} (λ found. (found.0.name, found.1)) broken
+
+-- as the code has them
+abbrev pub broken_seen : Option (Bor (List ℕ) × Rule) → Option (List ℕ × Rule)
+broken_seen broken = option_map {U = List ℕ × Rule} (λ found. (found.0.now, found.1)) broken
+
+-- sources as the code has them
+abbrev pub sources_seen : List found.SourceFile → List SourceFile
+sources_seen sources = map (λ source. record { name = source.name.now; bytes = source.bytes }) sources
+
+-- the folder has this under the name, where it tells
 abbrev pub Finds : Option Contents → List ℕ → Option (List ℕ) → Type 0
-Finds files file found = IfSome files (λ held. held file ≡ found)
+Finds files name found = IfSome files (λ held. held name ≡ found)
 
--- the folder has a straight file with this program under the file's name, where it tells
-abbrev pub FindsStraight : Option Contents → List ℕ → Straight → Type 0
-FindsStraight files file program = (bytes : List ℕ) × Finds files file (Some bytes) × (first_broken bytes ≡ None) × (straight_of bytes ≡ Some program)
+-- the folder was called once for each of these names, and has these sources under them, where it tells
+pub record FindsSources (names : List (List ℕ)) (sources : List SourceFile) (before after : FolderState) : Type 0 where
+  pub calls : after.calls ≡ more_calls (length names) before.calls
+  pub unchanged : after.files ≡ before.files
+  pub named : names_of sources ≡ names
+  pub told : IfSome before.files (λ held. AreSources held names sources)
+  pub log : GoesOn before.log after.log (reads_of sources)
 
--- the folder has a file that breaks this rule first, where it tells
-abbrev pub FindsBroken : Option Contents → List ℕ → Rule → Type 0
-FindsBroken files file rule = (bytes : List ℕ) × Finds files file (Some bytes) × (first_broken bytes ≡ Some rule)
+-- the sources break no rule, and this is their program, if they are one straight file
+pub record FindsAccepted (names : List (List ℕ)) (program : Option Straight) (before after : FolderState) : Type 0 where
+  pub sources : List SourceFile
+  pub finds : FindsSources names sources before after
+  pub accepted : first_broken_of sources ≡ None
+  pub program_is : program_of sources ≡ program
 
--- the folder has a file that breaks no rule and isn't straight, where it tells
-abbrev pub FindsUnbuilt : Option Contents → List ℕ → Type 0
-FindsUnbuilt files file = (bytes : List ℕ) × Finds files file (Some bytes) × (first_broken bytes ≡ None) × (straight_of bytes ≡ None)
+-- of the sources, the one with this name is the first that breaks a rule, and this is the first rule that it breaks
+pub record FindsBroken (names : List (List ℕ)) (name : List ℕ) (rule : Rule) (before after : FolderState) : Type 0 where
+  pub sources : List SourceFile
+  pub bytes : List ℕ
+  pub finds : FindsSources names sources before after
+  pub broken : first_broken_of sources ≡ Some (record { name = name; bytes = bytes }, rule)
 
--- the program in a file was read, or it wasn't
-abbrev pub ReadsProgram : Option Contents → List ℕ → Result Straight Stop → Type 0
-ReadsProgram files file (Ok program) = FindsStraight files file program
-ReadsProgram files file (Err stop.NoFile) = Finds files file None
-ReadsProgram files file (Err (stop.Broken rule)) = FindsBroken files file rule
-ReadsProgram files file (Err stop.NotBuilt) = FindsUnbuilt files file
-ReadsProgram files file (Err stop.Folder) = Unit {0}
-ReadsProgram files file (Err stop.Sink) = ⊥
-ReadsProgram files file (Err stop.Mem) = Unit {0}
+-- the folder was asked for the names up to this one, which isn't there, where it tells
+pub record FindsMissing (names : List (List ℕ)) (name : List ℕ) (before after : FolderState) : Type 0 where
+  pub asked : AskedUpTo names name (Ok None) before after
+  pub missing : Finds before.files name None
 
--- a file was run, or wasn't
-abbrev pub RunsFile : Option Contents → List ℕ → SinkState → SinkState → Result ℕ Stop → Type 0
-RunsFile files file before after (Ok value) =
-    (program : Straight) × FindsStraight files file program × (value ≡ program.value) × Prints (ended program.texts) before after (Ok tt)
-RunsFile files file before after (Err stop.Sink) = (program : Straight) × FindsStraight files file program × Prints (ended program.texts) before after (Err (record {}))
-RunsFile files file before after (Err stop.NoFile) = Finds files file None × (after ≡ before)
-RunsFile files file before after (Err (stop.Broken rule)) = FindsBroken files file rule × (after ≡ before)
-RunsFile files file before after (Err stop.NotBuilt) = FindsUnbuilt files file × (after ≡ before)
-RunsFile files file before after (Err stop.Folder) = after ≡ before
-RunsFile files file before after (Err stop.Mem) = after ≡ before
+-- the folder failed at some name
+abbrev pub FailsAtSome : List (List ℕ) → FolderState → FolderState → Type 0
+FailsAtSome names before after = (name : List ℕ) × AskedUpTo names name (Err refused.Failed) before after
 
--- a straight file was read, and then the C of its program was written, which the folder answered so
-abbrev pub WritesC : List ℕ → List ℕ → FolderState → FolderState → Result (Unit {0}) Refused → Type 0
-WritesC name file before after result =
-    (program : Straight) × FindsStraight before.files file program × AskedAndWrote (c_name name) (written program) result before after
+-- a command stopped before it ran or wrote anything
+abbrev pub StopsFor : List (List ℕ) → FolderState → FolderState → Stop → Type 0
+StopsFor names before after (stop.NoFile name) = FindsMissing names name.now before after
+StopsFor names before after (stop.Broken name rule) = FindsBroken names name.now rule before after
+StopsFor names before after stop.NotBuilt = FindsAccepted names None before after
+StopsFor names before after stop.Folder = FailsAtSome names before after
+StopsFor names before after stop.Sink = ⊥
+StopsFor names before after stop.Mem = AskedForSome names before after
+
+-- the sources were read, or they weren't
+abbrev pub ReadsSources : List (List ℕ) → FolderState → FolderState → Result (List found.SourceFile) Stop → Type 0
+ReadsSources names before after (Ok sources) = FindsSources names (sources_seen sources) before after
+ReadsSources names before after (Err stop) = StopsFor names before after stop
+
+-- the program in the sources was read, or it wasn't
+abbrev pub ReadsProgram : List (List ℕ) → FolderState → FolderState → Result Straight Stop → Type 0
+ReadsProgram names before after (Ok program) = FindsAccepted names (Some program) before after
+ReadsProgram names before after (Err stop) = StopsFor names before after stop
+
+-- a program was run, or wasn't
+abbrev pub RunsFiles : List (List ℕ) → FolderState → FolderState → SinkState → SinkState → Result ℕ Stop → Type 0
+RunsFiles names before after out out' (Ok value) =
+    (program : Straight) × FindsAccepted names (Some program) before after × (value ≡ program.value) × Prints (ended program.texts) out out' (Ok tt)
+RunsFiles names before after out out' (Err stop.Sink) =
+    (program : Straight) × FindsAccepted names (Some program) before after × Prints (ended program.texts) out out' (Err (record {}))
+RunsFiles names before after out out' (Err stop) = StopsFor names before after stop × (out' ≡ out)
+
+-- this program was read, and then its C was written, which the folder answered so
+pub record WritesProgram (name : List ℕ) (names : List (List ℕ)) (program : Straight) (before after : FolderState) (result : Result (Unit {0}) Refused) : Type 0 where
+  pub read : FolderState
+  pub finds : FindsAccepted names (Some program) before read
+  pub wrote : AskedAndWrote names (c_name name) (written program) result before after
+
+-- some program was read, and then its C was written
+abbrev pub WritesC : List ℕ → List (List ℕ) → FolderState → FolderState → Result (Unit {0}) Refused → Type 0
+WritesC name names before after result = (program : Straight) × WritesProgram name names program before after result
 
 -- the C was written, it is the text of the program's tree, and the line that tells it was put, which the output answered so
-abbrev pub TellsC : List ℕ → List ℕ → FolderState → FolderState → SinkState → SinkState → Result (Unit {0}) Failed → Type 0
-TellsC name file before after out out' result =
-    (program : Straight) × FindsStraight before.files file program × AskedAndWrote (c_name name) (written program) (Ok tt) before after
-    × CText (written program) (lined (tree_of program))
-    × Put (emitted_line (c_name name) (written program)) out out' result
+pub record TellsC (name : List ℕ) (names : List (List ℕ)) (before after : FolderState) (out out' : SinkState) (result : Result (Unit {0}) Failed) : Type 0 where
+  pub program : Straight
+  pub writes : WritesProgram name names program before after (Ok tt)
+  pub is_text : CText (written program) (lined (tree_of program))
+  pub told : Put (emitted_line (c_name name) (written program)) out out' result
 
--- the C of a file was written, or it wasn't
-abbrev pub EmitsFile : List ℕ → List ℕ → FolderState → FolderState → SinkState → SinkState → Result (Unit {0}) Stop → Type 0
-EmitsFile name file before after out out' (Ok done) = TellsC name file before after out out' (Ok tt)
-EmitsFile name file before after out out' (Err stop.Sink) = TellsC name file before after out out' (Err (record {}))
-EmitsFile name file before after out out' (Err stop.NoFile) = Finds before.files file None × Asked before after × (out' ≡ out)
-EmitsFile name file before after out out' (Err (stop.Broken rule)) = FindsBroken before.files file rule × Asked before after × (out' ≡ out)
-EmitsFile name file before after out out' (Err stop.NotBuilt) = FindsUnbuilt before.files file × Asked before after × (out' ≡ out)
-EmitsFile name file before after out out' (Err stop.Folder) = (Asked before after ⊎ WritesC name file before after (Err refused.Failed)) × (out' ≡ out)
-EmitsFile name file before after out out' (Err stop.Mem) = (Asked before after ⊎ WritesC name file before after (Err refused.Mem)) × (out' ≡ out)
+-- the C of a program was written, or it wasn't
+abbrev pub EmitsFiles : List ℕ → List (List ℕ) → FolderState → FolderState → SinkState → SinkState → Result (Unit {0}) Stop → Type 0
+EmitsFiles name names before after out out' (Ok done) = TellsC name names before after out out' (Ok tt)
+EmitsFiles name names before after out out' (Err stop.Sink) = TellsC name names before after out out' (Err (record {}))
+EmitsFiles name names before after out out' (Err stop.Folder) = (FailsAtSome names before after ⊎ WritesC name names before after (Err refused.Failed)) × (out' ≡ out)
+EmitsFiles name names before after out out' (Err stop.Mem) = (AskedForSome names before after ⊎ WritesC name names before after (Err refused.Mem)) × (out' ≡ out)
+EmitsFiles name names before after out out' (Err stop) = StopsFor names before after stop × (out' ≡ out)
+
+-- a line was made and told, or memory ran out in making it
+abbrev pub MakesAndTells : List ℕ → Status → SinkState → SinkState → Status → Type 0
+MakesAndTells line meant before after status = Tells line meant before after status ⊎ (Tried no_memory_line before after × (status ≡ Memory))
 
 -- the line of what stopped a command, with the status that comes of it
-abbrev pub TellsStop : List ℕ → Stop → SinkState → SinkState → Status → Type 0
-TellsStop file stop.NoFile before after status = Tells (no_file_line file) NoFile before after status ⊎ (Tried no_memory_line before after × (status ≡ Memory))
-TellsStop file (stop.Broken rule) before after status = Tells (broken_line file 1 1 rule) Broken before after status ⊎ (Tried no_memory_line before after × (status ≡ Memory))
-TellsStop file stop.NotBuilt before after status = Tried not_built_line before after × (status ≡ NotBuilt)
-TellsStop file stop.Folder before after status = Tried folder_fault_line before after × (status ≡ FolderFault)
-TellsStop file stop.Sink before after status = Tried output_fault_line before after × (status ≡ SinkFault)
-TellsStop file stop.Mem before after status = Tried no_memory_line before after × (status ≡ Memory)
+abbrev pub TellsStop : Stop → SinkState → SinkState → Status → Type 0
+TellsStop (stop.NoFile name) before after status = MakesAndTells (no_file_line name.now) NoFile before after status
+TellsStop (stop.Broken name rule) before after status = MakesAndTells (broken_line name.now 1 1 rule) Broken before after status
+TellsStop stop.NotBuilt before after status = Tried not_built_line before after × (status ≡ NotBuilt)
+TellsStop stop.Folder before after status = Tried folder_fault_line before after × (status ≡ FolderFault)
+TellsStop stop.Sink before after status = Tried output_fault_line before after × (status ≡ SinkFault)
+TellsStop stop.Mem before after status = Tried no_memory_line before after × (status ≡ Memory)

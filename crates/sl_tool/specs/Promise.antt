@@ -2,11 +2,12 @@
 -- folder tells that it holds, and `input` what the input tells that it has left. Of a folder or an input that tells nothing, the
 -- promise is that it holds of some `files` and some `input`. Of an output that tells nothing of its bytes, nothing is said but
 -- its counts of faults and of calls.
-use Rattle.std.specs.Prelude.{◌≡◌, ◌⊎◌, ℕ, pos, ◌<◌, ◌≤◌, List, [], ◌++◌, Some, None, IfSome, Result, Ok, Err}
+use Rattle.std.specs.Prelude.{◌≡◌, ◌⊎◌, ℕ, ◌+◌, zero, suc, pos, ◌<◌, ◌≤◌, List, [], ◌∷◌, ◌++◌, length, map, Option, Some, None, IfSome, Result, Ok, Err}
+use Rattle.std.specs.List.{All}
 use Rattle.sl_outside.specs.declared.folder.Refused.{Refused}
 use Rattle.sl_outside.specs.declared.folder.Refused.TheVariants as refused
 use Rattle.sl_outside.specs.Counts.{one_more}
-use Rattle.sl_outside.specs.Folder.{Contents, WriteGives, FolderState}
+use Rattle.sl_outside.specs.Folder.{Contents, FolderCall, ReadCall, WriteCall, GoesOn, WriteGives, FolderState}
 use Rattle.sl_outside.specs.Sink.{IsPrefix, SinkState, Put, Tried, Prints}
 use Rattle.sl_run.specs.Run.{Done}
 use Rattle.sl_run.specs.Run as ending
@@ -19,11 +20,11 @@ use Rattle.sl_tool.specs.declared.status.Status.{Status}
 use Rattle.sl_tool.specs.declared.status.Status.TheVariants.{Exit, Usage, Broken, Halted, TurnsSpent, StackSpent, ExitValue, NotC, Stuck, NoFile, FolderFault, InputFault, SinkFault, Memory, NotBuilt}
 use Rattle.sl_tool.specs.declared.straight.Straight.{Straight}
 use Rattle.sl_text.specs.declared.rule.Rule.{Rule}
-use Rattle.sl_tool.specs.Straight.{IsStraight}
-use Rattle.sl_tool.specs.Accepting.{IsAccepted, IsFirstBroken, line_at, column_at}
+use Rattle.sl_tool.specs.Accepting.{line_at, column_at}
+use Rattle.sl_tool.specs.SourceFiles.{SourceFile, names_of, AreSources, IsThere, IsFirstMissing, AreAccepted, IsFirstBrokenOf, AreStraight}
 use Rattle.sl_tool.specs.Meaning.{run_of}
 use Rattle.sl_tool.specs.Tree.{written}
-use Rattle.sl_tool.specs.Words.{Command, Run, Emit, file_of, Reads, HasNoReading}
+use Rattle.sl_tool.specs.Words.{Command, Run, Emit, files_of, Reads, HasNoReading, BeginsNoCommand}
 use Rattle.sl_tool.specs.Texts.{broken_line, usage_line, no_file_line, folder_fault_line, output_fault_line, no_memory_line, not_built_line}
 use Rattle.sl_tool.specs.Answer.{Answer, answer_of, default_turns, run_status, c_name, with_file}
 use Rattle.sl_tool.specs.Outside.{Outside, IsTold, FolderRose, InputRose, OutRose, NoteRose, NothingFailed}
@@ -32,9 +33,9 @@ use Rattle.sl_tool.specs.Outside.{Outside, IsTold, FolderRose, InputRose, OutRos
 abbrev pub IsUnlessMemory : Status → Status → Type 0
 IsUnlessMemory status meant = (status ≡ meant) ⊎ (status ≡ Memory)
 
--- the files have a straight file under this name, with this program, that breaks no rule
-abbrev pub HoldsStraight : Contents → List ℕ → Straight → Type 0
-HoldsStraight files file program = (bytes : List ℕ) × (files file ≡ Some bytes) × IsAccepted bytes × IsStraight bytes program
+-- the files have under these names one straight file, with this program, that breaks no rule
+abbrev pub HoldsStraight : Contents → List (List ℕ) → Straight → Type 0
+HoldsStraight files names program = (sources : List SourceFile) × AreSources files names sources × AreAccepted sources × AreStraight sources program
 
 -- Complete ------------------------------------------------------------------------------------------------------------
 
@@ -70,10 +71,10 @@ pub record RanAs (run : Outcome) (before after : Outside) (status : Status) : Ty
   pub printed_bytes : IfSome before.out.held (λ held. after.out.held ≡ Some (held ++ printed run.events))
   pub rest : IfSome before.input.left (λ _. after.input.left ≡ Some run.rest)
 
--- where nothing failed, `run FILE` on a straight file prints, reads and ends as the program does, or its status is `Memory`
+-- where nothing failed, `run` of one straight file prints, reads and ends as the program does, or its status is `Memory`
 abbrev pub Runs : List (List ℕ) → Contents → List ℕ → Outside → Outside → Status → Type 0
 Runs words files input before after status =
-    (file : List ℕ) (program : Straight) → Reads words (Run file) → HoldsStraight files file program →
+    (names : List (List ℕ)) (program : Straight) → Reads words (Run names) → HoldsStraight files names program →
     NothingFailed before after → RanAs (run_of program input default_turns) before after status ⊎ (status ≡ Memory)
 
 -- Bytes written -------------------------------------------------------------------------------------------------------
@@ -90,60 +91,62 @@ pub record IsCOf (program : Straight) (text : List ℕ) : Type 0 where
 
 -- the C of a straight file was written under a name: where the folder tells its files, that name has just these bytes, and all
 -- others have what they had
-pub record WroteC (name file : List ℕ) (files : Contents) (before after : Outside) : Type 0 where
+pub record WroteC (name : List ℕ) (names : List (List ℕ)) (files : Contents) (before after : Outside) : Type 0 where
   pub program : Straight
-  pub source : HoldsStraight files file program
+  pub source : HoldsStraight files names program
   pub folder : IfSome before.folder.files (λ _. after.folder.files ≡ Some (with_file files (c_name name) (written program)))
   pub is_c : IsCOf program (written program)
 
 -- `emit` wrote the C of its file where it ended with 0 to 63, which is then 0, and where it ended by a fault of `out`, which only
 -- its line can have met
-pub record Emitted (name file : List ℕ) (files : Contents) (before after : Outside) (status : Status) : Type 0 where
-  pub done : (value : ℕ) → status ≡ Exit value → (value ≡ 0) × WroteC name file files before after
-  pub not_told : status ≡ SinkFault → before.out.faults < after.out.faults → WroteC name file files before after
+pub record Emitted (name : List ℕ) (names : List (List ℕ)) (files : Contents) (before after : Outside) (status : Status) : Type 0 where
+  pub done : (value : ℕ) → status ≡ Exit value → (value ≡ 0) × WroteC name names files before after
+  pub not_told : status ≡ SinkFault → before.out.faults < after.out.faults → WroteC name names files before after
 
 abbrev pub Emits : List (List ℕ) → Contents → Outside → Outside → Status → Type 0
-Emits words files before after status = (name file : List ℕ) → Reads words (Emit name file) → Emitted name file files before after status
+Emits words files before after status =
+    (name : List ℕ) (names : List (List ℕ)) → Reads words (Emit name names) → Emitted name names files before after status
 
 -- Causes --------------------------------------------------------------------------------------------------------------
 
--- the words ask for a file that isn't there
-abbrev pub AsksForNoFile : List (List ℕ) → Contents → Type 0
-AsksForNoFile words files = (command : Command) × Reads words command × (files (file_of command) ≡ None)
+-- the words ask for files of which this one is the first that isn't there
+abbrev pub AsksForNoFile : List (List ℕ) → Contents → List ℕ → Type 0
+AsksForNoFile words files name = (command : Command) × Reads words command × IsFirstMissing files (files_of command) name
 
--- the words ask for a file that breaks a rule, of which this is the first, at this place
-abbrev pub AsksForBroken : List (List ℕ) → Contents → Command → List ℕ → Rule → ℕ → Type 0
-AsksForBroken words files command bytes rule place = Reads words command × (files (file_of command) ≡ Some bytes) × IsFirstBroken bytes rule place
+-- the words ask for these sources, which are all there
+abbrev pub AsksFor : List (List ℕ) → Contents → List SourceFile → Type 0
+AsksFor words files sources = (command : Command) × Reads words command × AreSources files (files_of command) sources
 
--- the words ask for a file that breaks a rule
-abbrev pub AsksForSomeBroken : List (List ℕ) → Contents → Type 0
-AsksForSomeBroken words files = (command : Command) × (bytes : List ℕ) × (rule : Rule) × (place : ℕ) × AsksForBroken words files command bytes rule place
+-- the words ask for sources of which this one is the first that breaks a rule, and of the rules that it breaks this is the
+-- first, at this place
+abbrev pub AsksForBroken : List (List ℕ) → Contents → SourceFile → Rule → ℕ → Type 0
+AsksForBroken words files source rule place = (sources : List SourceFile) × AsksFor words files sources × IsFirstBrokenOf sources source rule place
 
--- the words ask for a file that breaks no rule and isn't straight
+-- the words ask for sources that break no rule and aren't one straight file
 abbrev pub AsksForUnbuilt : List (List ℕ) → Contents → Type 0
 AsksForUnbuilt words files =
-    (command : Command) × (bytes : List ℕ) × Reads words command × (files (file_of command) ≡ Some bytes) × IsAccepted bytes × ((program : Straight) → ¬ IsStraight bytes program)
+    (sources : List SourceFile) × AsksFor words files sources × AreAccepted sources × ((program : Straight) → ¬ AreStraight sources program)
 
 -- what a command ends with on a straight program: a run with the program's exit value, and `emit` with 0
 abbrev pub GivesExit : Command → Straight → List ℕ → ℕ → Type 0
-GivesExit (Run file) program input value = (run_of program input default_turns).ending ≡ Done (pos value)
-GivesExit (Emit name file) program input value = value ≡ 0
+GivesExit (Run names) program input value = (run_of program input default_turns).ending ≡ Done (pos value)
+GivesExit (Emit name names) program input value = value ≡ 0
 
 -- the words ask for something that ends so
 abbrev pub EndsWith : List (List ℕ) → Contents → List ℕ → ℕ → Type 0
 EndsWith words files input value =
-    (command : Command) × (program : Straight) × Reads words command × HoldsStraight files (file_of command) program × GivesExit command program input value
+    (command : Command) × (program : Straight) × Reads words command × HoldsStraight files (files_of command) program × GivesExit command program input value
 
 -- each status comes only with its cause; want of memory needs none
 abbrev pub Cause : List (List ℕ) → Contents → List ℕ → Outside → Outside → Status → Type 0
 Cause words files input before after (Exit value) = (value ≤ 63) × EndsWith words files input value
 Cause words files input before after Usage = HasNoReading words
-Cause words files input before after NoFile = AsksForNoFile words files
+Cause words files input before after NoFile = (name : List ℕ) × AsksForNoFile words files name
 Cause words files input before after FolderFault = FolderRose before after
 Cause words files input before after SinkFault = OutRose before after ⊎ NoteRose before after
 Cause words files input before after Memory = Unit {0}
 Cause words files input before after NotBuilt = AsksForUnbuilt words files
-Cause words files input before after Broken = AsksForSomeBroken words files
+Cause words files input before after Broken = (source : SourceFile) × (rule : Rule) × (place : ℕ) × AsksForBroken words files source rule place
 -- the other statuses don't come yet
 Cause words files input before after Halted = ⊥
 Cause words files input before after TurnsSpent = ⊥
@@ -153,11 +156,13 @@ Cause words files input before after NotC = ⊥
 Cause words files input before after Stuck = ⊥
 Cause words files input before after InputFault = ⊥
 
--- and where its cause stands the status comes, but for want of memory and for a fault on the way
+-- and where its cause stands the status comes, but for want of memory and for a fault on the way. That the first word isn't that of
+-- a command takes no memory to see
 pub record Comes (words : List (List ℕ)) (files : Contents) (input : List ℕ) (before after : Outside) (status : Status) : Type 0 where
   pub usage : HasNoReading words → ¬ NoteRose before after → IsUnlessMemory status Usage
-  pub no_file : AsksForNoFile words files → ¬ FolderRose before after → ¬ NoteRose before after → IsUnlessMemory status NoFile
-  pub broken : AsksForSomeBroken words files → ¬ FolderRose before after → ¬ NoteRose before after → IsUnlessMemory status Broken
+  pub at_once : BeginsNoCommand words → ¬ NoteRose before after → status ≡ Usage
+  pub no_file : (name : List ℕ) → AsksForNoFile words files name → ¬ FolderRose before after → ¬ NoteRose before after → IsUnlessMemory status NoFile
+  pub broken : (source : SourceFile) (rule : Rule) (place : ℕ) → AsksForBroken words files source rule place → ¬ FolderRose before after → ¬ NoteRose before after → IsUnlessMemory status Broken
   pub not_built : AsksForUnbuilt words files → ¬ FolderRose before after → IsUnlessMemory status NotBuilt
   pub exit : (value : ℕ) → EndsWith words files input value → ¬ FolderRose before after → ¬ InputRose before after → ¬ OutRose before after → IsUnlessMemory status (Exit value)
 
@@ -171,12 +176,16 @@ pub record HidesNoFault (before after : Outside) (status : Status) : Type 0 wher
   pub out : ¬ FolderRose before after → ¬ InputRose before after → before.out.faults < after.out.faults → status ≡ SinkFault
   pub note : ¬ FolderRose before after → ¬ InputRose before after → before.note.faults < after.note.faults → IsUnlessMemory status SinkFault ⊎ (status ≡ NotBuilt)
 
--- counts of faults never fall
+-- Counts of faults never fall. The first fault of the folder or of `out` is the last call of it; `note` may fail twice, since a
+-- line that it refused is followed by that of the fault
 pub record CountsGrow (before after : Outside) : Type 0 where
   pub folder : before.folder.faults ≤ after.folder.faults
   pub input : before.input.faults ≤ after.input.faults
   pub out : before.out.faults ≤ after.out.faults
   pub note : before.note.faults ≤ after.note.faults
+  pub folder_once : after.folder.faults ≤ before.folder.faults + 1
+  pub out_once : after.out.faults ≤ before.out.faults + 1
+  pub note_twice : after.note.faults ≤ before.note.faults + 2
 
 -- What stands after a call ---------------------------------------------------------------------------------------------
 
@@ -186,65 +195,116 @@ pub record GoesNoFurther (answer : Answer) (input : List ℕ) (before after : Ou
   pub out : IfSome before.out.held (λ held. (prefix : List ℕ) × IsPrefix prefix answer.out × (after.out.held ≡ Some (held ++ prefix)))
   pub taken : IfSome before.input.left (λ _. (taken : List ℕ) × (more : List ℕ) × (input ≡ taken ++ more ++ answer.rest) × (after.input.left ≡ Some (more ++ answer.rest)))
 
--- the folder was called once, and no file changed
-pub record Asked (before after : FolderState) : Type 0 where
-  pub once : after.calls ≡ one_more before.calls
+-- a count after so many more calls
+abbrev pub more_calls : ℕ → ℕ → ℕ
+more_calls zero calls = calls
+more_calls (suc more) calls = more_calls more (one_more calls)
+
+-- the calls that read these sources
+abbrev pub reads_of : List SourceFile → List FolderCall
+reads_of sources = map (λ source. ReadCall source.name (Ok (Some source.bytes))) sources
+
+-- The folder was called once for each of these names, in order, to read it, and no file changed. All of them are there, where the
+-- folder tells its files; and each was found, where it tells its calls
+pub record AskedAll (names : List (List ℕ)) (before after : FolderState) : Type 0 where
+  pub calls : after.calls ≡ more_calls (length names) before.calls
   pub unchanged : after.files ≡ before.files
+  pub there : IfSome before.files (λ held. All (λ name. IsThere held name) names)
+  pub sources : List SourceFile
+  pub named : names_of sources ≡ names
+  pub log : GoesOn before.log after.log (reads_of sources)
 
--- the folder was called twice, the second time to write these bytes under this name, which it answered so
-pub record AskedAndWrote (name bytes : List ℕ) (result : Result (Unit {0}) Refused) (before after : FolderState) : Type 0 where
-  pub twice : after.calls ≡ one_more (one_more before.calls)
+-- The folder was called once for each of these names up to this one, in order, to read it, and no file changed. All before it are
+-- there, where the folder tells its files; and each of them was found, and this one answered so, where it tells its calls
+pub record AskedUpTo (names : List (List ℕ)) (name : List ℕ) (answer : Result (Option (List ℕ)) Refused) (before after : FolderState) : Type 0 where
+  pub earlier : List (List ℕ)
+  pub later : List (List ℕ)
+  pub order : names ≡ earlier ++ name ∷ later
+  pub calls : after.calls ≡ more_calls (suc (length earlier)) before.calls
+  pub unchanged : after.files ≡ before.files
+  pub there : IfSome before.files (λ held. All (λ other. IsThere held other) earlier)
+  pub sources : List SourceFile
+  pub named : names_of sources ≡ earlier
+  pub log : GoesOn before.log after.log (reads_of sources ++ ReadCall name answer ∷ [])
+
+-- a read that didn't fail
+abbrev pub IsNoFault : Result (Option (List ℕ)) Refused → Type 0
+IsNoFault (Ok found) = Unit {0}
+IsNoFault (Err refused.Failed) = ⊥
+IsNoFault (Err refused.Mem) = Unit {0}
+
+-- the folder was called for the names in order, for all of them or up to one, and it didn't fail
+abbrev pub AskedForSome : List (List ℕ) → FolderState → FolderState → Type 0
+AskedForSome names before after =
+    AskedAll names before after ⊎ ((name : List ℕ) × (answer : Result (Option (List ℕ)) Refused) × IsNoFault answer × AskedUpTo names name answer before after)
+
+-- The folder was called once for each of these names, in order, to read it, and then to write these bytes under this name, which
+-- it answered so
+pub record AskedAndWrote (names : List (List ℕ)) (name bytes : List ℕ) (result : Result (Unit {0}) Refused) (before after : FolderState) : Type 0 where
+  pub calls : after.calls ≡ one_more (more_calls (length names) before.calls)
   pub gives : WriteGives before.files after.files name bytes result
+  pub sources : List SourceFile
+  pub named : names_of sources ≡ names
+  pub log : GoesOn before.log after.log (reads_of sources ++ WriteCall name bytes result ∷ [])
 
--- How a run put what it printed on `out`, by the status: byte by byte, each by a call of its own, up to the first that failed
+-- how the names were asked for where the command stopped before it ran or wrote anything, by the status. The folder isn't called
+-- where memory runs out in reading the words
+abbrev pub Stopped : List (List ℕ) → Contents → Outside → Outside → Status → Type 0
+Stopped names files before after Broken = AskedAll names before.folder after.folder
+Stopped names files before after NotBuilt = AskedAll names before.folder after.folder
+Stopped names files before after NoFile = (name : List ℕ) × (files name ≡ None) × AskedUpTo names name (Ok None) before.folder after.folder
+Stopped names files before after FolderFault = (name : List ℕ) × AskedUpTo names name (Err refused.Failed) before.folder after.folder
+Stopped names files before after SinkFault =
+    NoteRose before after
+    × (AskedAll names before.folder after.folder ⊎ ((name : List ℕ) × (files name ≡ None) × AskedUpTo names name (Ok None) before.folder after.folder))
+Stopped names files before after Memory = (after.folder ≡ before.folder) ⊎ AskedForSome names before.folder after.folder
+Stopped names files before after other = ⊥
+
+-- how a run put what it printed on `out`, by the status: byte by byte, each by a call of its own, up to the first that failed
 abbrev pub Printed : Answer → Outside → Outside → Status → Type 0
 Printed answer before after (Exit value) = Prints answer.out before.out after.out (Ok tt)
-Printed answer before after SinkFault = Prints answer.out before.out after.out (Err (record {})) ⊎ (NoteRose before after × (after.out ≡ before.out))
+Printed answer before after SinkFault = Prints answer.out before.out after.out (Err (record {}))
 Printed answer before after Memory = (prefix : List ℕ) × IsPrefix prefix answer.out × Prints prefix before.out after.out (Ok tt)
-Printed answer before after Broken = after.out ≡ before.out
-Printed answer before after NoFile = after.out ≡ before.out
-Printed answer before after FolderFault = after.out ≡ before.out
-Printed answer before after NotBuilt = after.out ≡ before.out
 Printed answer before after other = ⊥
 
--- what `run` did to the folder and to `out`
-pub record RunDid (answer : Answer) (before after : Outside) (status : Status) : Type 0 where
-  pub asked : Asked before.folder after.folder
-  pub printed : Printed answer before after status
+-- what `run` did to the folder and to `out`: it stopped before it ran anything, or it asked for all its files and then printed
+abbrev pub RunDid : List (List ℕ) → Contents → Answer → Outside → Outside → Status → Type 0
+RunDid names files answer before after status =
+    (Stopped names files before after status × (after.out ≡ before.out))
+    ⊎ (AskedAll names before.folder after.folder × Printed answer before after status)
 
--- `emit` read its file and then wrote the C of its program, which the folder answered so
-abbrev pub Wrote : List ℕ → List ℕ → Contents → Result (Unit {0}) Refused → Outside → Outside → Type 0
-Wrote name file files result before after =
-    (program : Straight) × HoldsStraight files file program × AskedAndWrote (c_name name) (written program) result before.folder after.folder
+-- `emit` asked for all its files and then wrote the C of their program, which the folder answered so
+abbrev pub Wrote : List ℕ → List (List ℕ) → Contents → Result (Unit {0}) Refused → Outside → Outside → Type 0
+Wrote name names files result before after =
+    (program : Straight) × HoldsStraight files names program × AskedAndWrote names (c_name name) (written program) result before.folder after.folder
 
--- What `emit` did to the folder and to `out`, by the status. The C is written by one call, and then its line is put on `out` by one
--- call; before that nothing is put there. Where the write was refused, the folder may have left anything under that name for a
--- fault, and has changed nothing for want of memory
-abbrev pub EmitDid : List ℕ → List ℕ → Contents → Answer → Outside → Outside → Status → Type 0
-EmitDid name file files answer before after (Exit value) = Wrote name file files (Ok tt) before after × Put answer.out before.out after.out (Ok tt)
-EmitDid name file files answer before after Broken = Asked before.folder after.folder × (after.out ≡ before.out)
-EmitDid name file files answer before after NoFile = Asked before.folder after.folder × (after.out ≡ before.out)
-EmitDid name file files answer before after NotBuilt = Asked before.folder after.folder × (after.out ≡ before.out)
-EmitDid name file files answer before after FolderFault = (Asked before.folder after.folder ⊎ Wrote name file files (Err refused.Failed) before after) × (after.out ≡ before.out)
-EmitDid name file files answer before after SinkFault =
-    (OutRose before after × Wrote name file files (Ok tt) before after × Put answer.out before.out after.out (Err (record {})))
-    ⊎ (NoteRose before after × Asked before.folder after.folder × (after.out ≡ before.out))
-EmitDid name file files answer before after Memory = (Asked before.folder after.folder ⊎ Wrote name file files (Err refused.Mem) before after) × (after.out ≡ before.out)
-EmitDid name file files answer before after other = ⊥
+-- How `emit` wrote the C, by one call, and then put its line on `out`, by one call, by the status. Where the write was refused,
+-- nothing was put, and the folder may have left anything under that name for a fault, and has changed nothing for want of memory
+abbrev pub WroteAndTold : List ℕ → List (List ℕ) → Contents → Answer → Outside → Outside → Status → Type 0
+WroteAndTold name names files answer before after (Exit value) = Wrote name names files (Ok tt) before after × Put answer.out before.out after.out (Ok tt)
+WroteAndTold name names files answer before after SinkFault = Wrote name names files (Ok tt) before after × Put answer.out before.out after.out (Err (record {}))
+WroteAndTold name names files answer before after FolderFault = Wrote name names files (Err refused.Failed) before after × (after.out ≡ before.out)
+WroteAndTold name names files answer before after Memory = Wrote name names files (Err refused.Mem) before after × (after.out ≡ before.out)
+WroteAndTold name names files answer before after other = ⊥
+
+-- what `emit` did to the folder and to `out`: it stopped before it wrote anything, or it wrote the C and then told it
+abbrev pub EmitDid : List ℕ → List (List ℕ) → Contents → Answer → Outside → Outside → Status → Type 0
+EmitDid name names files answer before after status =
+    (Stopped names files before after status × (after.out ≡ before.out)) ⊎ WroteAndTold name names files answer before after status
 
 -- what a call did to the folder and to `out`: nothing where the words have no reading, and else what the command does
 pub record Acts (words : List (List ℕ)) (files : Contents) (answer : Answer) (before after : Outside) (status : Status) : Type 0 where
   pub none : HasNoReading words → (after.folder ≡ before.folder) × (after.out ≡ before.out)
-  pub run : (file : List ℕ) → Reads words (Run file) → RunDid answer before after status
-  pub emit : (name file : List ℕ) → Reads words (Emit name file) → EmitDid name file files answer before after status
+  pub run : (names : List (List ℕ)) → Reads words (Run names) → RunDid names files answer before after status
+  pub emit : (name : List ℕ) (names : List (List ℕ)) → Reads words (Emit name names) → EmitDid name names files answer before after status
 
 -- the lines whose refusal changes the status to `SinkFault`: those of 64, 65 and 72
 abbrev pub IsLineOf : List (List ℕ) → Contents → Status → List ℕ → Type 0
 IsLineOf words files Usage line = HasNoReading words × (line ≡ usage_line)
 IsLineOf words files Broken line =
-    (command : Command) × (bytes : List ℕ) × (rule : Rule) × (place : ℕ)
-    × AsksForBroken words files command bytes rule place × (line ≡ broken_line (file_of command) (line_at bytes place) (column_at bytes place) rule)
-IsLineOf words files NoFile line = (command : Command) × Reads words command × (files (file_of command) ≡ None) × (line ≡ no_file_line (file_of command))
+    (source : SourceFile) × (rule : Rule) × (place : ℕ) × AsksForBroken words files source rule place
+    × (line ≡ broken_line source.name (line_at source.bytes place) (column_at source.bytes place) rule)
+IsLineOf words files NoFile line = (name : List ℕ) × AsksForNoFile words files name × (line ≡ no_file_line name)
 IsLineOf words files other line = ⊥
 
 -- such a line was put and refused, and then the line of the fault was tried
@@ -277,7 +337,7 @@ pub record Keeps (words : List (List ℕ)) (files : Contents) (input : List ℕ)
   pub run : Runs words files input before after status
   -- where `emit` ended with 0, or by a fault of `out`, the folder has C that means the program
   pub bytes_written : Emits words files before after status
-  -- each status comes only with its cause, and where its cause stands: 65 exactly where the source breaks a rule
+  -- each status comes only with its cause, and where its cause stands: 65 exactly where all sources are there and one breaks a rule
   pub cause : Cause words files input before after status
   pub comes : Comes words files input before after status
   -- the status shows a fault

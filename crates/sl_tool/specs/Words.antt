@@ -1,18 +1,26 @@
 -- How the words after the program's name are read: the relation that says it.
-use Rattle.std.specs.Prelude.{◌≡◌, ◌≢◌, ◌⊎◌, ℕ, List, [], ◌∷◌, ◌++◌, codes}
+use Rattle.std.specs.Prelude.{◌≡◌, ◌≢◌, ◌⊎◌, ℕ, ◌≤◌, List, [], ◌∷◌, ◌++◌, length, codes}
 use Rattle.std.specs.List.{All, Contains}
 
 -- what the words can ask for
 pub data Command : Type 0 where
-  -- `run FILE`: the program in this file is run
-  Run : (file : List ℕ) → Command
-  -- `emit -o NAME FILE`: the C of the program in this file is written under NAME.c
-  Emit : (name file : List ℕ) → Command
+  -- `run FILE..`: the program in these files is run
+  Run : (files : List (List ℕ)) → Command
+  -- `emit -o NAME FILE..`: the C of the program in these files is written under NAME.c
+  Emit : (name : List ℕ) (files : List (List ℕ)) → Command
 
--- the file that a command reads
-abbrev pub file_of : Command → List ℕ
-file_of (Run file) = file
-file_of (Emit name file) = file
+-- the files that a command reads, in order
+abbrev pub files_of : Command → List (List ℕ)
+files_of (Run files) = files
+files_of (Emit name files) = files
+
+-- the most files that a command may name
+abbrev pub most_files : ℕ
+most_files = 255
+
+-- as many files as a command may name
+abbrev pub AreEnough : List (List ℕ) → Type 0
+AreEnough files = (1 ≤ length files) × (length files ≤ most_files)
 
 -- The words of the parts ----------------------------------------------------------------------------------------------
 
@@ -85,12 +93,17 @@ Gives options files words =
     (parts : List Part) × (more : List (List ℕ))
     × HasParts parts more words × (options_in parts ≡ options) × (files_in parts ++ more ≡ files)
 
--- the words ask for this command: `run` has one FILE and no option, and `emit` has one FILE and one `-o`, whose NAME isn't empty
+-- the words ask for this command: `run` has 1 to 255 FILEs and no option, and `emit` has as many and one `-o`, whose NAME isn't empty
 abbrev pub Reads : List (List ℕ) → Command → Type 0
-Reads words (Run file) = (rest : List (List ℕ)) × (words ≡ codes "run" ∷ rest) × Gives [] (file ∷ []) rest
-Reads words (Emit name file) =
-    (rest : List (List ℕ)) × (words ≡ codes "emit" ∷ rest) × (name ≢ []) × Gives ((codes "-o", name) ∷ []) (file ∷ []) rest
+Reads words (Run files) = (rest : List (List ℕ)) × (words ≡ codes "run" ∷ rest) × AreEnough files × Gives [] files rest
+Reads words (Emit name files) =
+    (rest : List (List ℕ)) × (words ≡ codes "emit" ∷ rest) × (name ≢ []) × AreEnough files × Gives ((codes "-o", name) ∷ []) files rest
 
 -- the words are those of no command
 abbrev pub HasNoReading : List (List ℕ) → Type 0
 HasNoReading words = (command : Command) → ¬ Reads words command
+
+-- the first word isn't that of a command
+abbrev pub BeginsNoCommand : List (List ℕ) → Type 0
+BeginsNoCommand [] = Unit {0}
+BeginsNoCommand (word ∷ words) = (word ≢ codes "run") × (word ≢ codes "emit")

@@ -1,5 +1,6 @@
 -- How the command that words ask for is found, word by word.
-use Rattle.std.specs.Prelude.{ℕ, List, [], ◌∷◌, ◌++◌, Bool, true, false, ◌==◌, not, if◌then◌else◌, Option, Some, None, option_map, map, drop, codes}
+use Rattle.std.specs.Prelude.{ℕ, List, [], ◌∷◌, ◌++◌, Bool, true, false, ◌==◌, not, ◌&&◌, nat_le, if◌then◌else◌, Option, Some, None, option_map, map, drop, length, codes}
+use Rattle.std.specs.Borrow.{Bor}
 use Rattle.std.specs.List.{starts_with}
 use Rattle.std.specs.Option.{option_and_then, option_to_list}
 use Rattle.std.specs.Str.{bytes_eq}
@@ -10,7 +11,7 @@ use Rattle.sl_tool.specs.declared.words.Kind as kind
 use Rattle.sl_tool.specs.declared.words.Kind.TheVariants as of_kind
 use Rattle.sl_tool.specs.declared.words.Place.{Place}
 use Rattle.sl_tool.specs.declared.words.Place.TheVariants.{Among, BehindOption, BehindDashes}
-use Rattle.sl_tool.specs.Words.{Command, Run, Emit}
+use Rattle.sl_tool.specs.Words.{Command, Run, Emit, most_files}
 
 -- How a command is found ----------------------------------------------------------------------------------------------
 
@@ -79,20 +80,25 @@ gathered BehindDashes [] = Some nothing
 gathered BehindDashes ([] ∷ words) = None
 gathered BehindDashes ((byte ∷ bytes) ∷ words) = option_map (with_file (byte ∷ bytes)) (gathered BehindDashes words)
 
--- `run` of the one file, where there is no option
+-- whether a command may name so many files
+abbrev pub are_enough : ℕ → Bool
+are_enough files = nat_le 1 files && nat_le files most_files
+
+-- `run` of these files, where there is no option
 abbrev pub run_given : List (List ℕ × List ℕ) → List (List ℕ) → Option Command
-run_given [] (file ∷ []) = Some (Run file)
-run_given options files = None
+run_given [] files = if are_enough (length files) then Some (Run files) else None
+run_given (option ∷ options) files = None
 
--- `emit` of this file under the value of an option, if that is `-o` and the value isn't empty
-abbrev pub emit_under : (option name file : List ℕ) → Option Command
-emit_under option [] file = None
-emit_under option (byte ∷ bytes) file = if bytes_eq option (codes "-o") then Some (Emit (byte ∷ bytes) file) else None
+-- `emit` of these files under the value of an option, if that is `-o` and the value isn't empty
+abbrev pub emit_under : (option name : List ℕ) → List (List ℕ) → Option Command
+emit_under option [] files = None
+emit_under option (byte ∷ bytes) files = if bytes_eq option (codes "-o") && are_enough (length files) then Some (Emit (byte ∷ bytes) files) else None
 
--- `emit` of the one file under the value of the one option
+-- `emit` of these files under the value of the one option
 abbrev pub emit_given : List (List ℕ × List ℕ) → List (List ℕ) → Option Command
-emit_given (option ∷ []) (file ∷ []) = emit_under option.0 option.1 file
-emit_given options files = None
+emit_given [] files = None
+emit_given (option ∷ []) files = emit_under option.0 option.1 files
+emit_given (option ∷ other ∷ options) files = None
 
 -- the command of the words behind `run`
 abbrev pub run_words : List (List ℕ) → Option Command
@@ -110,10 +116,14 @@ command_of (word ∷ words) = if bytes_eq word (codes "run") then run_words word
 
 -- How the code finds it -----------------------------------------------------------------------------------------------
 
+-- names of files as the code has them
+abbrev pub names_seen : List (Bor (List ℕ)) → List (List ℕ)
+names_seen names = map (λ name. name.now) names
+
 -- the command as the code has it
 abbrev pub command_seen : declared.Command → Command
-command_seen (variant.Run file) = Run file.now
-command_seen (variant.Emit name file) = Emit name.now file.now
+command_seen (variant.Run files) = Run (names_seen files)
+command_seen (variant.Emit name files) = Emit name.now (names_seen files)
 
 -- the kind of a word as the code has it
 abbrev pub kind_seen : kind.Kind → Kind
@@ -127,19 +137,18 @@ kind_seen of_kind.Other = IsOther
 abbrev pub found_seen : found.Found → Gathered
 found_seen found = record {
   options = map (λ name. (codes "-o", name.now)) (option_to_list found.name);
-  files = map (λ file. file.now) (option_to_list found.file);
+  files = names_seen found.files;
 }
 
--- options and files, where there is at most one of each
+-- options and files, where there is at most one option
 abbrev pub sole : List (List ℕ × List ℕ) → List (List ℕ) → Option Gathered
 sole (option ∷ other ∷ options) files = None
-sole options (file ∷ other ∷ files) = None
 sole options files = Some (record { options = options; files = files })
 
--- what was found before, together with what is found behind it, where there is at most one of each
+-- what was found before, together with what is found behind it, where there is at most one option
 abbrev pub together : Gathered → Option Gathered → Option Gathered
 together before behind = option_and_then (λ gathered. sole (before.options ++ gathered.options) (before.files ++ gathered.files)) behind
 
--- what was found, together with what the words behind it give, where there is at most one of each
+-- what was found, together with what the words behind it give, where there is at most one option
 abbrev pub read_on : found.Found → List (List ℕ) → Option Gathered
 read_on found words = together (found_seen found) (gathered found.place words)

@@ -1,4 +1,4 @@
-// `emit -o NAME FILE`: the C of a straight file is written under NAME.c, and a line tells it.
+// `emit -o NAME FILE..`: the C of a straight file is written under NAME.c, and a line tells it.
 ghost use Rattle.std.specs.Prelude.{◌≡◌, IfOk, string_bytes};
 ghost use Rattle.sl_outside.specs.Counts.{HasCause};
 ghost use Rattle.sl_outside.specs.Folder.{folder_state};
@@ -8,7 +8,8 @@ ghost use Rattle.c_write.specs.Lined.{lined};
 ghost use Rattle.sl_tool.specs.Straight.{IsProgram};
 ghost use Rattle.sl_tool.specs.Tree.{tree_of, written};
 ghost use Rattle.sl_tool.specs.Texts.{emitted_line};
-ghost use Rattle.sl_tool.specs.Parts.{EmitsFile, is_folder_fault};
+ghost use Rattle.sl_tool.specs.WordsReading.{names_seen};
+ghost use Rattle.sl_tool.specs.Parts.{EmitsFiles, is_folder_fault};
 
 use crate::building::build_tree;
 use crate::source::read_program;
@@ -19,23 +20,23 @@ use sl_outside::{Folder, Sink};
 use sl_text::{Mem, Row};
 use std::alloc::Global;
 
-/// Reads the file, writes the C of its program under the name and `.c`, and then puts the line that tells it.
-pub fn emit_file<F: Folder, K: Sink>(
+/// Reads the program in the files, writes its C under the name and `.c`, and then puts the line that tells it.
+pub fn emit_files<'a, F: Folder, K: Sink>(
     alloc: Global,
     name: &str,
-    file: &str,
+    names: &[&'a str],
     folder: &mut F,
     out: &mut K,
-) -> Result<(), Stop>
-    ensures emitted { EmitsFile name.now file.now
-        (folder_state (F.files folder.old) (F.faults folder.old) (F.calls folder.old))
-        (folder_state (F.files folder.new) (F.faults folder.new) (F.calls folder.new))
+) -> Result<(), Stop<'a>>
+    ensures emitted { EmitsFiles name.now (names_seen names.now)
+        (folder_state (F.files folder.old) (F.faults folder.old) (F.calls folder.old) (F.log folder.old))
+        (folder_state (F.files folder.new) (F.faults folder.new) (F.calls folder.new) (F.log folder.new))
         (sink_state (K.held out.old) (K.faults out.old) (K.calls out.old))
         (sink_state (K.held out.new) (K.faults out.new) (K.calls out.new))
         result }
     ensures cause { HasCause (is_folder_fault result) (F.faults folder.old) (F.faults folder.new) }
 {
-    let program = read_program(alloc, file, folder)?;
+    let program = read_program(alloc, names, folder)?;
     let text = c_text(alloc, &program)?;
     let target = format!(in alloc; "{name}.c")?;
     let line = line_of(alloc, target.as_str(), text.as_slice())?;

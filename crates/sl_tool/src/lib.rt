@@ -20,17 +20,17 @@ mod straight;
 mod telling;
 mod words;
 
-use emitting::emit_file;
-use running::run_file;
+use emitting::emit_files;
+use running::run_files;
 use sl_outside::{Folder, Sink, Source};
 pub use status::Status;
 use std::alloc::Global;
-use telling::{tell_stop, tell_usage};
+use telling::{tell_no_memory, tell_stop, tell_usage};
 use words::{Command, read_words};
 
-/// Does what the words after the program's name ask for. `run FILE` reads the file from `folder`, and puts on `out` what its
-/// program prints, a byte at a time. `emit -o NAME FILE` reads the file, writes the C of its program under `NAME.c` by one call,
-/// and puts the line `NAME.c B bytes` on `out`, where B is the length of the C. Where the status isn't 0 to 63, its line is put on
+/// Does what the words after the program's name ask for. `run FILE..` reads the files from `folder`, and puts on `out` what their
+/// program prints, a byte at a time. `emit -o NAME FILE..` reads the files, writes the C of their program under `NAME.c` by one
+/// call, and puts the line `NAME.c B bytes` on `out`, where B is the length of the C. Where the status isn't 0 to 63, its line is put on
 /// `note`; docs/command-line.md has the statuses, their causes and their lines. `input` isn't read.
 ///
 /// The one clause, `Promise`, has a field for each promise.
@@ -44,29 +44,33 @@ pub fn slang<F: Folder, S: Source, K: Sink, N: Sink>(
 ) -> Status
     ensures { Promise (map string_bytes words.now.items)
         (outside
-        (folder_state (F.files folder.old) (F.faults folder.old) (F.calls folder.old))
+        (folder_state (F.files folder.old) (F.faults folder.old) (F.calls folder.old) (F.log folder.old))
         (source_state (S.left input.old) (S.faults input.old) (S.calls input.old))
         (sink_state (K.held out.old) (K.faults out.old) (K.calls out.old))
         (sink_state (N.held note.old) (N.faults note.old) (N.calls note.old)))
         (outside
-        (folder_state (F.files folder.new) (F.faults folder.new) (F.calls folder.new))
+        (folder_state (F.files folder.new) (F.faults folder.new) (F.calls folder.new) (F.log folder.new))
         (source_state (S.left input.new) (S.faults input.new) (S.calls input.new))
         (sink_state (K.held out.new) (K.faults out.new) (K.calls out.new))
         (sink_state (N.held note.new) (N.faults note.new) (N.calls note.new)))
         result }
 {
-    let Some(command) = read_words(words.as_slice()) else {
-        return tell_usage(note);
+    let command = match read_words(alloc, words.as_slice()) {
+        Ok(Some(command)) => command,
+        Ok(None) => return tell_usage(note),
+        Err(_) => return tell_no_memory(note),
     };
     match command {
-        Command::Run { file } => match run_file(alloc, file, folder, out) {
+        Command::Run { files } => match run_files(alloc, files.as_slice(), folder, out) {
             Ok(value) => Status::Exit(value),
-            Err(stop) => tell_stop(alloc, file, stop, note),
+            Err(stop) => tell_stop(alloc, stop, note),
         },
-        Command::Emit { name, file } => match emit_file(alloc, name, file, folder, out) {
-            Ok(()) => Status::Exit(0),
-            Err(stop) => tell_stop(alloc, file, stop, note),
-        },
+        Command::Emit { name, files } => {
+            match emit_files(alloc, name, files.as_slice(), folder, out) {
+                Ok(()) => Status::Exit(0),
+                Err(stop) => tell_stop(alloc, stop, note),
+            }
+        }
     }
 }
 

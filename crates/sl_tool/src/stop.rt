@@ -6,11 +6,13 @@ use thiserror::Error;
 
 /// Why a command stopped before its end.
 #[derive(Clone, Copy, Debug, PartialEq, Eq, Error)]
-pub enum Stop {
-    #[error("no file")]
-    NoFile,
-    #[error("{0} is broken")]
-    Broken(Rule),
+pub enum Stop<'a> {
+    /// The file of this name isn't there.
+    #[error("no file {0}")]
+    NoFile(&'a str),
+    /// The file of this name breaks this rule.
+    #[error("{0} breaks {1}")]
+    Broken(&'a str, Rule),
     #[error("not built")]
     NotBuilt,
     #[error("folder fault")]
@@ -21,13 +23,13 @@ pub enum Stop {
     Mem,
 }
 
-impl From<Refused> for Stop {
+impl<'a> From<Refused> for Stop<'a> {
     ghost use Rattle.std.specs.Prelude.{◌≡◌};
     ghost use Rattle.sl_tool.specs.Stopping.{stop_of};
 
     ghost from_gives = { λ refused stop. stop ≡ stop_of refused };
 
-    fn from(refused: Refused) -> Stop {
+    fn from(refused: Refused) -> Stop<'a> {
         match refused {
             Refused::Failed => Stop::Folder,
             Refused::Mem => Stop::Mem,
@@ -35,24 +37,24 @@ impl From<Refused> for Stop {
     }
 }
 
-impl From<Mem> for Stop {
+impl<'a> From<Mem> for Stop<'a> {
     ghost use Rattle.std.specs.Prelude.{◌≡◌};
     ghost use Rattle.sl_tool.specs.declared.stop.Stop.TheVariants as stop;
 
     ghost from_gives = { λ _ e. e ≡ stop.Mem };
 
-    fn from(_: Mem) -> Stop {
+    fn from(_: Mem) -> Stop<'a> {
         Stop::Mem
     }
 }
 
-impl From<AllocError> for Stop {
+impl<'a> From<AllocError> for Stop<'a> {
     ghost use Rattle.std.specs.Prelude.{◌≡◌};
     ghost use Rattle.sl_tool.specs.declared.stop.Stop.TheVariants as stop;
 
     ghost from_gives = { λ _ e. e ≡ stop.Mem };
 
-    fn from(_: AllocError) -> Stop {
+    fn from(_: AllocError) -> Stop<'a> {
         Stop::Mem
     }
 }

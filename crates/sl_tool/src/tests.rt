@@ -11,68 +11,67 @@ fn words_of(alloc: Global, words: &[&str]) -> Result<Vec<String>, AllocError> {
     Ok(all)
 }
 
-/// Words and what they ask for. None where they have no reading.
-type Meant = (&'static [&'static str], Option<Command<'static>>);
+/// Words; and the files that they name, and the name for the C where the command is `emit`. None where they have no reading.
+type Meant = (
+    &'static [&'static str],
+    Option<(Option<&'static str>, &'static [&'static str])>,
+);
 
-const MEANT: [Meant; 20] = [
-    (&["run", "-"], Some(Command::Run { file: "-" })),
-    (
-        &["run", "--", "hello"],
-        Some(Command::Run { file: "hello" }),
-    ),
-    (
-        &["run", "hello", "--"],
-        Some(Command::Run { file: "hello" }),
-    ),
-    (&["run", "--", "-"], Some(Command::Run { file: "-" })),
-    (&["run", "--", "-x"], Some(Command::Run { file: "-x" })),
-    (&["run", "--", "--"], Some(Command::Run { file: "--" })),
+const MEANT: [Meant; 22] = [
+    (&["run", "-"], Some((None, &["-"]))),
+    (&["run", "--", "hello"], Some((None, &["hello"]))),
+    (&["run", "hello", "--"], Some((None, &["hello"]))),
+    (&["run", "--", "-"], Some((None, &["-"]))),
+    (&["run", "--", "-x"], Some((None, &["-x"]))),
+    (&["run", "--", "--"], Some((None, &["--"]))),
     (&["run", "--"], None),
-    (&["run", "--", "hello", "other"], None),
-    (&["run", "hello", "--", "other"], None),
+    (&["run", "b", "a"], Some((None, &["b", "a"]))),
+    (
+        &["run", "b", "--", "--", "a"],
+        Some((None, &["b", "--", "a"])),
+    ),
+    (&["run", "a", "", "b"], None),
     (&["run", "--", ""], None),
     (&["run", "--report", "hello"], None),
     (&["run", "-o", "q", "hello"], None),
     (
         &["emit", "-o", "q", "--", "hello"],
-        Some(Command::Emit {
-            name: "q",
-            file: "hello",
-        }),
+        Some((Some("q"), &["hello"])),
     ),
+    (&["emit", "-o", "q", "--", "-o"], Some((Some("q"), &["-o"]))),
     (
-        &["emit", "-o", "q", "--", "-o"],
-        Some(Command::Emit {
-            name: "q",
-            file: "-o",
-        }),
+        &["emit", "hello", "-o", "q", "there", "--"],
+        Some((Some("q"), &["hello", "there"])),
     ),
-    (
-        &["emit", "hello", "-o", "q", "--"],
-        Some(Command::Emit {
-            name: "q",
-            file: "hello",
-        }),
-    ),
-    (
-        &["emit", "-o=--", "hello"],
-        Some(Command::Emit {
-            name: "--",
-            file: "hello",
-        }),
-    ),
+    (&["emit", "-o=--", "hello"], Some((Some("--"), &["hello"]))),
     (&["emit", "--", "hello", "-o", "q"], None),
-    (&["emit", "-oq", "--", "hello", "-o"], None),
+    (
+        &["emit", "-oq", "--", "hello", "-o"],
+        Some((Some("q"), &["hello", "-o"])),
+    ),
+    (&["emit", "-oq", "hello", "-o"], None),
     (&["emit", "-o", "--", "hello"], None),
     (&["emit", "--", "hello"], None),
 ];
 
+/// Whether the words have no reading, or ask for this.
+fn means(read: Option<Command<'_>>, meant: &Option<(Option<&str>, &[&str])>) -> bool {
+    match (read, meant) {
+        (None, None) => true,
+        (Some(Command::Run { files }), Some((None, names))) => files.as_slice() == *names,
+        (Some(Command::Emit { name, files }), Some((Some(other), names))) => {
+            name == *other && files.as_slice() == *names
+        }
+        _ => false,
+    }
+}
+
 #[test]
 fn words_mean_what_they_say(rt: HostRuntime) -> Result<(), Fail> {
     let alloc = rt.alloc();
-    for (words, command) in &MEANT {
+    for (words, meant) in &MEANT {
         let words = words_of(alloc, words)?;
-        assert!(rt; read_words(words.as_slice()) == *command);
+        assert!(rt; means(read_words(alloc, words.as_slice())?, meant));
     }
     Ok(())
 }

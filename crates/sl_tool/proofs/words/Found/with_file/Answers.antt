@@ -1,21 +1,16 @@
--- A second file is one too many, whatever the words behind it give.
-use Rattle.std.proofs.Common.{◌≡◌, ℕ, List, [], ◌∷◌, ◌++◌, Option, Some, None, refl, option_map}
-use Rattle.sl_tool.specs.WordsReading.{Gathered, sole, together, with_file, gathered, found_seen}
+-- A file behind those that were found before stands in front of those that are found behind it.
+use Rattle.std.proofs.Common.{◌≡◌, ℕ, List, [], ◌∷◌, ◌++◌, append_assoc, Option, Some, None, refl, option_map}
+use Rattle.std.proofs.lemmas.List.{map-append}
+use Rattle.sl_tool.specs.WordsReading.{Gathered, names_seen, together, with_file, gathered, found_seen}
 use Rattle.sl_tool.proofs.words.Found.with_file.Goals as goal
 
--- two files are too many
-two_files : (options : List (List ℕ × List ℕ)) (file other : List ℕ) (files : List (List ℕ)) → sole options (file ∷ other ∷ files) ≡ None
-two_files [] file other files = refl
-two_files (option ∷ []) file other files = refl
-two_files (option ∷ second ∷ options) file other files = refl
+-- a file in front of what is found behind may stand at the end of what was found before
+file_moved : (options : List (List ℕ × List ℕ)) (files : List (List ℕ)) (file : List ℕ) (behind : Option Gathered)
+    → together (record { options = options; files = files }) (option_map (with_file file) behind) ≡ together (record { options = options; files = files ++ file ∷ [] }) behind
+file_moved options files file None = refl
+file_moved options files file (Some behind) = rw (append_assoc files (file ∷ []) behind.files)
 
--- where one file was found before, there is none behind another
-one_too_many : (options : List (List ℕ × List ℕ)) (first file : List ℕ) (behind : Option Gathered)
-    → together (record { options = options; files = first ∷ [] }) (option_map (with_file file) behind) ≡ None
-one_too_many options first file None = refl
-one_too_many options first file (Some gathered) = two_files (options ++ gathered.options) first file gathered.files
-
-pub returns-in-Some : goal.returns-in-Some
-returns-in-Some c = λ words.
-    let too_many = one_too_many (found_seen c.args.self).options c.in-Some.field-0.now c.args.file.now (gathered c.args.self.place words) in
-    rw c.in-Some.is too_many
+pub returns : goal.returns
+returns c = λ words.
+    rw (c.in_ok-push.ensures.ok, map-append (λ name. name.now) c.args.self.files (c.args.file ∷ []))
+    (file_moved (found_seen c.args.self).options (names_seen c.args.self.files) c.args.file.now (gathered c.args.self.place words))

@@ -1,0 +1,173 @@
+-- The files of a command are asked for one after another.
+use Rattle.std.proofs.Common.{◌≡◌, ℕ, zero, suc, ◌+◌, ◌<◌, List, [], ◌∷◌, ◌++◌, length, get_or, take, drop, Option, Some, None, refl, sym, ap, ◌∙◌, subst, inl, inr, Bor}
+use Rattle.std.specs.Prelude.{IfSome, Result, Ok, Err, IsErrAnd}
+use Rattle.std.specs.List.{All}
+use Rattle.std.proofs.lemmas.List.{append_assoc, map-append, take_more}
+use Rattle.std.proofs.lemmas.List.Elements.{All-append, All-cons, All-nil, All-head, All-tail, All-map}
+use Rattle.sl_outside.specs.declared.folder.Refused.{Refused}
+use Rattle.sl_outside.specs.declared.folder.Refused.TheVariants as refused
+use Rattle.sl_outside.specs.Counts.{one_more}
+use Rattle.sl_outside.specs.Folder.{Contents, FolderCall, ReadCall, GoesOn, FolderState}
+use Rattle.sl_text.specs.declared.rule.Rule.{Rule}
+use Rattle.sl_outside.specs.Sink.{SinkState}
+use Rattle.sl_tool.specs.declared.source.SourceFile as found
+use Rattle.sl_tool.specs.declared.stop.Stop.{Stop}
+use Rattle.sl_tool.specs.declared.straight.Straight.{Straight}
+use Rattle.sl_tool.specs.Straight.{IsProgram}
+use Rattle.sl_tool.specs.declared.stop.Stop.TheVariants as stop
+use Rattle.sl_tool.specs.SourceFiles.{SourceFile, AreSources, IsThere}
+use Rattle.sl_tool.specs.WordsReading.{names_seen}
+use Rattle.sl_tool.specs.Stopping.{stop_of}
+use Rattle.sl_tool.specs.Promise.{more_calls, reads_of, AskedAll, AskedUpTo}
+use Rattle.sl_tool.specs.Parts.{Finds, FindsSources, FindsAccepted, ReadsSources, ReadsProgram, RunsFiles, EmitsFiles, broken_name, sources_seen}
+use Rattle.sl_tool.proofs.Sources.{same_parts, found_program}
+use Rattle.sl_tool.proofs.Printing.{cut_at}
+
+-- what a folder tells of its calls goes on with some, and then with more
+pub goes_on : (a b c : Option (List FolderCall)) (xs ys : List FolderCall) → GoesOn a b xs → GoesOn b c ys → GoesOn a c (xs ++ ys)
+goes_on None b c xs ys h k = tt
+goes_on (Some calls) b c xs ys h k = let told : GoesOn (Some (calls ++ xs)) c ys = subst (λ b. GoesOn b c ys) h k in told ∙ ap Some (append_assoc calls xs ys)
+
+-- the reads of sources, and of one more
+reads_more : (sources : List SourceFile) (source : SourceFile) → reads_of sources ++ ReadCall source.name (Ok (Some source.bytes)) ∷ [] ≡ reads_of (sources ++ source ∷ [])
+reads_more sources source = sym (map-append (λ source. ReadCall source.name (Ok (Some source.bytes))) sources (source ∷ []))
+
+-- one call more is the last one
+more_one : (n calls : ℕ) → more_calls (suc n) calls ≡ one_more (more_calls n calls)
+more_one zero calls = refl
+more_one (suc n) calls = more_one n (one_more calls)
+
+-- the calls for names and one more
+calls_for_one_more : (names : List (List ℕ)) (name : List ℕ) (calls : ℕ) → more_calls (length (names ++ name ∷ [])) calls ≡ one_more (more_calls (length names) calls)
+calls_for_one_more [] name calls = refl
+calls_for_one_more (first ∷ names) name calls = calls_for_one_more names name (one_more calls)
+
+-- the file of a source is there
+pub sources_there : (held : Contents) (names : List (List ℕ)) (sources : List SourceFile) → AreSources held names sources → All (λ name. IsThere held name) names
+sources_there held names sources are =
+    subst (λ names. All (λ name. IsThere held name) names) are.named
+    (All-map (λ name. IsThere held name) (λ source. source.name) sources (at sources are.held))
+  where
+    at : (sources : List SourceFile) → All (λ source. held source.name ≡ Some source.bytes) sources → All (λ source. IsThere held source.name) sources
+    at [] all = All-nil (λ source. IsThere held source.name)
+    at (source ∷ sources) all =
+        All-cons (λ source. IsThere held source.name) source sources
+        (source.bytes, All-head (λ source. held source.name ≡ Some source.bytes) source sources all)
+        (at sources (All-tail (λ source. held source.name ≡ Some source.bytes) source sources all))
+
+-- all names were asked for
+pub asked_all : (names : List (List ℕ)) (sources : List SourceFile) (before after : FolderState) → FindsSources names sources before after → AskedAll names before after
+asked_all names sources before after finds = record {
+  calls = finds.calls;
+  unchanged = finds.unchanged;
+  there = at before.files finds.told;
+  sources = sources;
+  named = finds.named;
+  log = finds.log;
+}
+  where
+    at : (told : Option Contents) → IfSome told (λ held. AreSources held names sources) → IfSome told (λ held. All (λ name. IsThere held name) names)
+    at None h = tt
+    at (Some held) are = sources_there held names sources are
+
+-- a source behind others
+one_more_source : (held : Contents) (names : List (List ℕ)) (sources : List SourceFile) (name bytes : List ℕ) → AreSources held names sources → held name ≡ Some bytes → AreSources held (names ++ name ∷ []) (sources ++ record { name = name; bytes = bytes } ∷ [])
+one_more_source held names sources name bytes are is = record {
+  named = map-append (λ source. source.name) sources (record { name = name; bytes = bytes } ∷ []) ∙ ap (λ all. all ++ name ∷ []) are.named;
+  held =
+      All-append (λ source. held source.name ≡ Some source.bytes) sources (record { name = name; bytes = bytes } ∷ []) are.held
+      (All-cons (λ source. held source.name ≡ Some source.bytes) (record { name = name; bytes = bytes }) [] is (All-nil (λ source. held source.name ≡ Some source.bytes)));
+}
+
+-- a file was read by one call, which answered so
+pub record ReadOne (name : List ℕ) (answer : Result (Option (List ℕ)) Refused) (before after : FolderState) : Type 0 where
+  pub calls : after.calls ≡ one_more before.calls
+  pub unchanged : after.files ≡ before.files
+  pub log : GoesOn before.log after.log (ReadCall name answer ∷ [])
+
+module _ (earlier : List (List ℕ)) (sources : List SourceFile) (name : List ℕ) (before between after : FolderState) (finds : FindsSources earlier sources before between) where
+  -- one more file was found
+  pub found_one_more : (bytes : List ℕ) → ReadOne name (Ok (Some bytes)) between after → Finds before.files name (Some bytes) → FindsSources (earlier ++ name ∷ []) (sources ++ record { name = name; bytes = bytes } ∷ []) before after
+  found_one_more bytes call is = record {
+    calls = call.calls ∙ (ap one_more finds.calls ∙ sym (calls_for_one_more earlier name before.calls));
+    unchanged = call.unchanged ∙ finds.unchanged;
+    named = map-append (λ source. source.name) sources (record { name = name; bytes = bytes } ∷ []) ∙ ap (λ all. all ++ name ∷ []) finds.named;
+    told = at before.files finds.told is;
+    log =
+        subst (λ calls. GoesOn before.log after.log calls) (reads_more sources (record { name = name; bytes = bytes }))
+        (goes_on before.log between.log after.log (reads_of sources) (ReadCall name (Ok (Some bytes)) ∷ []) finds.log call.log);
+  }
+    where
+      at : (told : Option Contents) → IfSome told (λ held. AreSources held earlier sources) → Finds told name (Some bytes) → IfSome told (λ held. AreSources held (earlier ++ name ∷ []) (sources ++ record { name = name; bytes = bytes } ∷ []))
+      at None are is = tt
+      at (Some held) are is = one_more_source held earlier sources name bytes are is
+
+  -- the names up to one were asked for
+  pub asked_up_to : (answer : Result (Option (List ℕ)) Refused) → ReadOne name answer between after → (names later : List (List ℕ)) → names ≡ earlier ++ name ∷ later → AskedUpTo names name answer before after
+  asked_up_to answer call names later order = record {
+    earlier = earlier;
+    later = later;
+    order = order;
+    calls = call.calls ∙ (ap one_more finds.calls ∙ sym (more_one (length earlier) before.calls));
+    unchanged = call.unchanged ∙ finds.unchanged;
+    there = (asked_all earlier sources before between finds).there;
+    sources = sources;
+    named = finds.named;
+    log = goes_on before.log between.log after.log (reads_of sources) (ReadCall name answer ∷ []) finds.log call.log;
+  }
+
+-- the names up to one, that one, and those behind it
+pub names_cut : (names : List (Bor (List ℕ))) (i : ℕ) (d : Bor (List ℕ)) → i < length names → names_seen names ≡ names_seen (take i names) ++ (get_or names i d).now ∷ names_seen (drop (suc i) names)
+names_cut names i d within =
+    ap names_seen (sym (cut_at names i (get_or names i d) d within refl))
+    ∙ map-append (λ name. name.now) (take i names) (get_or names i d ∷ drop (suc i) names)
+
+-- the names up to one, and that one
+pub names_more : (names : List (Bor (List ℕ))) (i : ℕ) (d : Bor (List ℕ)) → i < length names → names_seen (take (i + 1) names) ≡ names_seen (take i names) ++ (get_or names i d).now ∷ []
+names_more names i d within = ap names_seen (take_more names i d within) ∙ map-append (λ name. name.now) (take i names) (get_or names i d ∷ [])
+
+-- sources as the code has them, and one more
+pub sources_more : (sources : List found.SourceFile) (source : found.SourceFile) → sources_seen (sources ++ source ∷ []) ≡ sources_seen sources ++ record { name = source.name.now; bytes = source.bytes } ∷ []
+sources_more sources source = map-append (λ source. record { name = source.name.now; bytes = source.bytes }) sources (source ∷ [])
+
+-- a read that was refused stops the reading
+pub read_refused : (names : List (List ℕ)) (before after : FolderState) (why : Refused) (result : Result (List found.SourceFile) Stop) → IsErrAnd result (λ stop. stop ≡ stop_of why) → (name : List ℕ) → AskedUpTo names name (Err why) before after → ReadsSources names before after result
+read_refused names before after why (Ok sources) is name asked = absurd is
+read_refused names before after refused.Failed (Err stop) is name asked = subst (λ stop. ReadsSources names before after (Err stop)) (sym is) (name, asked)
+read_refused names before after refused.Mem (Err stop) is name asked = subst (λ stop. ReadsSources names before after (Err stop)) (sym is) (inr (name, Err refused.Mem, tt, asked))
+
+-- and so does want of memory
+pub read_stopped : (names : List (List ℕ)) (before after : FolderState) (result : Result (List found.SourceFile) Stop) → IsErrAnd result (λ other. other ≡ stop.Mem) → (name bytes : List ℕ) → AskedUpTo names name (Ok (Some bytes)) before after → ReadsSources names before after result
+read_stopped names before after (Ok sources) is name bytes asked = absurd is
+read_stopped names before after (Err other) is name bytes asked = subst (λ other. ReadsSources names before after (Err other)) (sym is) (inr (name, Ok (Some bytes), tt, asked))
+
+-- want of memory after all was read
+pub program_stopped : (names : List (List ℕ)) (before after : FolderState) (result : Result Straight Stop) → IsErrAnd result (λ other. other ≡ stop.Mem) → AskedAll names before after → ReadsProgram names before after result
+program_stopped names before after (Ok program) is asked = absurd is
+program_stopped names before after (Err other) is asked = subst (λ other. ReadsProgram names before after (Err other)) (sym is) (inl asked)
+
+-- the source of a name and a rule that were found
+pub broken_found : (found : Option (SourceFile × Rule)) (name : List ℕ) (rule : Rule) → broken_name found ≡ Some (name, rule) → (bytes : List ℕ) × (found ≡ Some (record { name = name; bytes = bytes }, rule))
+broken_found None name rule e = absurd (cc e)
+broken_found (Some found) name rule e =
+    let same = same_parts {A = List ℕ} {B = Rule} (found.0.name, found.1) (name, rule) e in
+    (found.0.bytes, ap (λ n. Some (record { name = n; bytes = found.0.bytes }, found.1)) same.0 ∙ ap (λ r. Some (record { name = name; bytes = found.0.bytes }, r)) same.1)
+
+-- where no name was found, no source was
+pub none_broken : (found : Option (SourceFile × Rule)) → broken_name found ≡ None → found ≡ None
+none_broken None e = refl
+none_broken (Some found) e = absurd (cc e)
+
+-- a program that was read is well formed
+pub program_is_ok : {names : List (List ℕ)} {program : Straight} {before after : FolderState} → FindsAccepted names (Some program) before after → IsProgram program
+program_is_ok {program = program} finds = let straight = found_program finds.sources program finds.program_is in straight.2.well_formed
+
+-- memory ran out after a program was read, before it was run
+pub run_stopped : (names : List (List ℕ)) (program : Straight) (before after : FolderState) (out : SinkState) (result : Result ℕ Stop) → IsErrAnd result (λ other. other ≡ stop.Mem) → FindsAccepted names (Some program) before after → RunsFiles names before after out out result
+run_stopped names program before after out (Ok value) is finds = absurd is
+run_stopped names program before after out (Err other) is finds = subst (λ other. RunsFiles names before after out out (Err other)) (sym is) (inl (asked_all names finds.sources before after finds.finds), refl)
+
+-- or written
+pub emit_stopped : (name : List ℕ) (names : List (List ℕ)) (program : Straight) (before after : FolderState) (out : SinkState) (result : Result (Unit {0}) Stop) → IsErrAnd result (λ other. other ≡ stop.Mem) → FindsAccepted names (Some program) before after → EmitsFiles name names before after out out result
+emit_stopped name names program before after out (Ok done) is finds = absurd is
+emit_stopped name names program before after out (Err other) is finds = subst (λ other. EmitsFiles name names before after out out (Err other)) (sym is) (inl (inl (asked_all names finds.sources before after finds.finds)), refl)
