@@ -38,6 +38,12 @@ impl Called {
         self.code == code && self.out.as_slice() == out && self.note.as_slice() == note
     }
 
+    /// Whether the next call of the folder fails. Where the number of the call that is to fail is one more than the tool should
+    /// have made, this says that it made just so many.
+    pub fn next_fails(&mut self, alloc: Global) -> bool {
+        self.folder.read(alloc, "").is_err()
+    }
+
     /// What the folder then has under a name. A call that was to fail and wasn't made yet is made first.
     pub fn under(&mut self, alloc: Global, name: &str) -> Result<Option<Row<u8>>, Fail> {
         match self.folder.read(alloc, name) {
@@ -59,6 +65,17 @@ impl Called {
 /// The straight file with this body.
 pub fn app(alloc: Global, body: &str) -> Result<String, Fail> {
     Ok(format!(in alloc; "{HEAD}{body}{END}")?)
+}
+
+/// Words, and behind them others.
+pub fn joined<'a>(
+    alloc: Global,
+    front: &[&'a str],
+    back: &[&'a str],
+) -> Result<Vec<&'a str>, Fail> {
+    let mut words = Vec::from_slice(alloc, front)?;
+    words.extend_from_slice(back)?;
+    Ok(words)
 }
 
 /// Calls the tool with these words over these files.

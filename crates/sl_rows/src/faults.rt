@@ -1,5 +1,5 @@
 // Each call of the folder and of the outputs refused in turn, and what then stands.
-use crate::called::{CALM, Failing, NONE, app, call};
+use crate::called::{CALM, Failing, NONE, app, call, joined};
 use std::alloc::Global;
 use std::test::Fail;
 
@@ -8,6 +8,8 @@ const USAGE: &[u8] = b"usage: check, emit, run, step, stack or sample\n";
 const FOLDER: &[u8] = b"folder fault\n";
 
 const OUTPUT: &[u8] = b"output fault\n";
+
+const NOT_BUILT: &[u8] = b"not built\n";
 
 const BODY: &str = "    println(\"hi\")\n    return 7\n";
 
@@ -103,13 +105,76 @@ fn each_call_of_emit_refused(rt: HostRuntime) -> Result<(), Fail> {
     Ok(())
 }
 
+/// Files that are named, and the calls of the folder that fail; and the status and the line of `run` and of `emit` on them, where
+/// nothing is written. `a`, `b` and `c` are straight, `empty` breaks L1, and `other` is neither. The last of the calls is one more
+/// than is to be made.
+const READS: [(&[&str], &[u64], u8, &[u8]); 14] = [
+    (&["other"], &[2], 77, NOT_BUILT),
+    (&["a", "b", "c"], &[4], 77, NOT_BUILT),
+    (&["a", "b", "c"], &[1, 2], 73, FOLDER),
+    (&["a", "b", "c"], &[2, 3], 73, FOLDER),
+    (&["a", "b", "c"], &[3, 4], 73, FOLDER),
+    (&["a", "a", "a"], &[2, 3], 73, FOLDER),
+    (&["missing", "b", "c"], &[1, 2], 73, FOLDER),
+    (&["missing", "b", "c"], &[2], 72, b"no file missing\n"),
+    (&["a", "missing", "c"], &[2, 3], 73, FOLDER),
+    (&["a", "missing", "c"], &[3], 72, b"no file missing\n"),
+    (&["empty", "b", "c"], &[2, 3], 73, FOLDER),
+    (&["empty", "b", "c"], &[4], 65, b"empty:1:1: L1\n"),
+    (&["a", "b", "empty"], &[4], 65, b"empty:1:1: L1\n"),
+    (&["empty", "b", "missing"], &[3, 4], 73, FOLDER),
+];
+
+/// The words of a command before its files.
+const FRONTS: [&[&str]; 2] = [&["run"], &["emit", "-oq"]];
+
+#[test]
+fn each_read_refused(rt: HostRuntime) -> Result<(), Fail> {
+    let alloc = rt.alloc();
+    let source = app(alloc, BODY)?;
+    let bytes = source.as_bytes();
+    let files: [(&str, &[u8]); 5] = [
+        ("a", bytes),
+        ("b", bytes),
+        ("c", bytes),
+        ("empty", b""),
+        ("other", b"// #Sireum\n"),
+    ];
+    for (names, failing, code, line) in &READS {
+        for front in &FRONTS {
+            let words = joined(alloc, front, names)?;
+            // The first call of `out` would fail, and show.
+            let what = [*failing, &[1], NONE];
+            let mut told = call(alloc, words.as_slice(), &files, what)?;
+            assert!(rt; told.told(*code, b"", line));
+            assert!(rt; told.next_fails(alloc));
+            for (name, held) in &files {
+                assert!(rt; told.holds(alloc, name, Some(held))?);
+            }
+            assert!(rt; told.holds(alloc, "q.c", None)?);
+            let what = [*failing, &[1], &[1]];
+            let mut refused = call(alloc, words.as_slice(), &files, what)?;
+            if matches!(*code, 65 | 72) {
+                assert!(rt; refused.told(75, b"", OUTPUT));
+            } else {
+                assert!(rt; refused.told(*code, b"", b""));
+            }
+            assert!(rt; refused.next_fails(alloc));
+            assert!(rt; refused.holds(alloc, "q.c", None)?);
+        }
+    }
+    Ok(())
+}
+
 /// Words that are refused with a line, and that line.
-const REFUSED: [(&[&str], u8, &[u8]); 5] = [
+const REFUSED: [(&[&str], u8, &[u8]); 7] = [
     (&["run"], 64, USAGE),
     (&["run", "missing"], 72, b"no file missing\n"),
     (&["run", "empty"], 65, b"empty:1:1: L1\n"),
     (&["emit", "-oq", "missing"], 72, b"no file missing\n"),
     (&["emit", "-oq", "empty"], 65, b"empty:1:1: L1\n"),
+    (&["run", "empty", "missing"], 72, b"no file missing\n"),
+    (&["emit", "empty", "-oq", "empty"], 65, b"empty:1:1: L1\n"),
 ];
 
 #[test]
@@ -124,16 +189,5 @@ fn each_line_refused(rt: HostRuntime) -> Result<(), Fail> {
         let twice = call(alloc, words, &files, [NONE, NONE, &[1, 2]])?;
         assert!(rt; twice.told(75, b"", b""));
     }
-    Ok(())
-}
-
-#[test]
-fn a_line_that_is_only_tried_changes_nothing(rt: HostRuntime) -> Result<(), Fail> {
-    let alloc = rt.alloc();
-    let files: [(&str, &[u8]); 1] = [("other", b"// #Sireum\n")];
-    let told = call(alloc, &["run", "other"], &files, CALM)?;
-    assert!(rt; told.told(77, b"", b"not built\n"));
-    let refused = call(alloc, &["run", "other"], &files, [NONE, NONE, &[1]])?;
-    assert!(rt; refused.told(77, b"", b""));
     Ok(())
 }

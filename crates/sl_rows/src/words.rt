@@ -1,57 +1,145 @@
 // How words are read.
-use crate::called::{CALM, app, call};
+use crate::called::{CALM, app, call, joined};
 use sl_text::Row;
 use std::test::Fail;
 
 const USAGE: &[u8] = b"usage: check, emit, run, step, stack or sample\n";
 
-/// Words, and the status that they have where the folder has a source that returns 5 under `a`, `-` and `--`.
-const WORDS: [(&[&str], u8); 34] = [
-    (&[], 64),
-    (&[""], 64),
-    (&["walk", "a"], 64),
-    (&["Run", "a"], 64),
-    (&["run"], 64),
-    (&["run", ""], 64),
-    (&["run", "a"], 5),
-    (&["run", "a", "a"], 64),
-    (&["run", "-"], 5),
-    (&["run", "-a"], 64),
-    (&["run", "--"], 64),
-    (&["run", "--", "a"], 5),
-    (&["run", "a", "--"], 5),
-    (&["run", "--", "-"], 5),
-    (&["run", "--", "--"], 5),
-    (&["run", "--", ""], 64),
-    (&["run", "--", "a", "a"], 64),
-    (&["run", "--report", "a"], 64),
-    (&["run", "-o", "q", "a"], 64),
-    (&["run", "-h"], 64),
-    (&["--help"], 64),
-    (&["--version"], 64),
-    (&["emit", "a"], 64),
-    (&["emit", "-o", "q"], 64),
-    (&["emit", "-o", "a", "-o", "q", "a"], 64),
-    (&["emit", "-oq", "-oq", "a"], 64),
-    (&["emit", "-o", "-q", "a"], 64),
-    (&["emit", "-o", "--", "a"], 64),
-    (&["emit", "-o", "", "a"], 64),
-    (&["emit", "-o=", "a"], 64),
-    (&["emit", "--", "a", "-o", "q"], 64),
-    (&["emit", "-o", "q", "a", "a"], 64),
-    (&["emit", "-O", "q", "a"], 64),
-    (&["check", "a"], 64),
+const NOT_BUILT: &[u8] = b"not built\n";
+
+/// Words that have no reading.
+const UNREAD: [&[&str]; 34] = [
+    &[],
+    &[""],
+    &["walk", "a"],
+    &["Run", "a"],
+    &["check", "a"],
+    &["--help"],
+    &["--version"],
+    &["--", "run", "a"],
+    &["run"],
+    &["run", ""],
+    &["run", "a", ""],
+    &["run", "", "a"],
+    &["run", "-a"],
+    &["run", "a", "-a", "a"],
+    &["run", "--"],
+    &["run", "--", ""],
+    &["run", "--report", "a"],
+    &["run", "-o", "q", "a"],
+    &["run", "a", "a", "-oq"],
+    &["run", "-h"],
+    &["emit", "a"],
+    &["emit", "-o", "q"],
+    &["emit", "-o", "q", "--"],
+    &["emit", "a", "-o"],
+    &["emit", "-o", "a", "-o", "q", "a"],
+    &["emit", "-oq", "a", "a", "-oq"],
+    &["emit", "-o", "-q", "a"],
+    &["emit", "-o", "--", "a"],
+    &["emit", "-o", "", "a"],
+    &["emit", "-o=", "a"],
+    &["emit", "--", "a", "-o", "q"],
+    &["emit", "--", "-oq", "a"],
+    &["emit", "-oq", "a", "", "a"],
+    &["emit", "-O", "q", "a"],
 ];
 
 #[test]
-fn words_have_a_reading_or_none(rt: HostRuntime) -> Result<(), Fail> {
+fn words_without_a_reading_are_refused(rt: HostRuntime) -> Result<(), Fail> {
     let alloc = rt.alloc();
     let source = app(alloc, "    return 5\n")?;
-    let bytes = source.as_bytes();
-    let files: [(&str, &[u8]); 3] = [("a", bytes), ("-", bytes), ("--", bytes)];
-    for (words, code) in &WORDS {
-        let called = call(alloc, words, &files, CALM)?;
-        let note = if *code == 64 { USAGE } else { b"" };
+    for words in &UNREAD {
+        let called = call(alloc, words, &[("a", source.as_bytes())], CALM)?;
+        assert!(rt; called.told(64, b"", USAGE));
+    }
+    Ok(())
+}
+
+/// Words, and the files that they name.
+const FILES: [(&[&str], &[&str]); 23] = [
+    (&["run", "a"], &["a"]),
+    (&["run", "-"], &["-"]),
+    (&["run", "--", "a"], &["a"]),
+    (&["run", "a", "--"], &["a"]),
+    (&["run", "--", "-"], &["-"]),
+    (&["run", "--", "--"], &["--"]),
+    (&["run", "--", "-oq"], &["-oq"]),
+    (&["run", "a", "b"], &["a", "b"]),
+    (&["run", "b", "a"], &["b", "a"]),
+    (&["run", "a", "a"], &["a", "a"]),
+    (&["run", "-", "a", "-"], &["-", "a", "-"]),
+    (&["run", "--", "a", "b"], &["a", "b"]),
+    (&["run", "a", "--", "b"], &["a", "b"]),
+    (&["run", "a", "b", "--"], &["a", "b"]),
+    (&["run", "a", "--", "--"], &["a", "--"]),
+    (&["run", "--", "--", "a", "--"], &["--", "a", "--"]),
+    (&["run", "a b", "--", "-x=", "é"], &["a b", "-x=", "é"]),
+    (&["emit", "-o", "q", "a", "b"], &["a", "b"]),
+    (&["emit", "b", "-oq", "a"], &["b", "a"]),
+    (&["emit", "b", "a", "-o=q", "--"], &["b", "a"]),
+    (&["emit", "a", "-o", "q", "b", "--", "c"], &["a", "b", "c"]),
+    (&["emit", "-o", "q", "--", "a", "-o"], &["a", "-o"]),
+    (&["emit", "-oq", "--", "-oq", "--"], &["-oq", "--"]),
+];
+
+#[test]
+fn words_name_files_in_order(rt: HostRuntime) -> Result<(), Fail> {
+    let alloc = rt.alloc();
+    let source = app(alloc, "    return 5\n")?;
+    for (words, names) in &FILES {
+        let mut files: Vec<(&str, &[u8])> = Vec::new(alloc);
+        for (at, name) in names.iter().enumerate() {
+            if !names[..at].contains(name) {
+                let line = format!(in alloc; "no file {name}\n")?;
+                let called = call(alloc, words, files.as_slice(), CALM)?;
+                assert!(rt; called.told(72, b"", line.as_bytes()));
+            }
+            files.push((*name, source.as_bytes()))?;
+        }
+        let called = call(alloc, words, files.as_slice(), CALM)?;
+        if names.len() == 1 {
+            assert!(rt; called.told(5, b"", b""));
+        } else {
+            assert!(rt; called.told(77, b"", NOT_BUILT));
+        }
+    }
+    Ok(())
+}
+
+/// Words, so many times the word `a`, and other words; and the status and the line over a folder that has only `a`.
+type Many = (
+    &'static [&'static str],
+    usize,
+    &'static [&'static str],
+    u8,
+    &'static [u8],
+);
+
+const MANY: [Many; 10] = [
+    (&["run"], 255, &[], 77, NOT_BUILT),
+    (&["run"], 256, &[], 64, USAGE),
+    (&["run"], 254, &["b"], 72, b"no file b\n"),
+    (&["run"], 255, &["b"], 64, USAGE),
+    (&["run", "--"], 255, &[], 77, NOT_BUILT),
+    (&["run"], 254, &["--", "--"], 72, b"no file --\n"),
+    (&["run"], 255, &["--", "--"], 64, USAGE),
+    (&["emit", "-o", "q"], 255, &["--"], 77, NOT_BUILT),
+    (&["emit"], 255, &["-oq"], 77, NOT_BUILT),
+    (&["emit", "-oq"], 256, &[], 64, USAGE),
+];
+
+#[test]
+fn a_command_names_255_files_at_most(rt: HostRuntime) -> Result<(), Fail> {
+    let alloc = rt.alloc();
+    let source = app(alloc, "    return 5\n")?;
+    for (front, count, back, code, note) in &MANY {
+        let mut words = Vec::from_slice(alloc, front)?;
+        for _ in 0..*count {
+            words.push("a")?;
+        }
+        let words = joined(alloc, words.as_slice(), back)?;
+        let called = call(alloc, words.as_slice(), &[("a", source.as_bytes())], CALM)?;
         assert!(rt; called.told(*code, b"", note));
     }
     Ok(())
