@@ -1,0 +1,4 @@
+pub mod Types
+pub mod Arithmetic
+pub mod Comparing
+pub mod Decimals
