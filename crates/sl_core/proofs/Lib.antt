@@ -1,0 +1,5 @@
+pub mod Layers
+pub mod Equations
+pub mod Alone
+pub mod Steady
+pub mod Examples
