@@ -1,61 +1,276 @@
 -- A tree with something of everything breaks no rule: a struct with an array and a union, a global variable, inline functions of
--- which one calls the other, a function with a variable behind the one that calls it, and a function with a parameter.
-use Rattle.std.proofs.Common.{◌≡◌, ◌≢◌, ℕ, ◌^◌, ◌<◌, List, [], ◌∷◌, ◌++◌, map, true, false, Some, None, refl, ap, ◌∙◌, inl, inr, arith, All, Contains, codes, bytes_eq}
+-- which one calls the other with an argument, a function whose result is stored and which stands behind its caller, an `if` with
+-- `else` and one without, and a halt.
+use Rattle.std.proofs.Common.{◌≡◌, ◌≢◌, ◌⊎◌, ℕ, ◌^◌, ◌<◌, List, [], ◌∷◌, ◌++◌, map, true, false, Option, Some, None, refl, sym, subst, ap, ◌∙◌, inl, inr, arith, All, Contains, codes, bytes_eq}
+use Rattle.std.specs.Prelude.{option_map}
 use Rattle.std.specs.List.{AllByRecursion, count_by, list_any, IsDistinct}
-use Rattle.std.proofs.lemmas.List.Elements.{All-contains, All-from_recursion}
+use Rattle.std.proofs.lemmas.List.Elements.{All-nil, All-cons, All-contains, All-from_recursion}
 use Rattle.std.proofs.lemmas.List.Folds.{list_any_at}
 use Rattle.std.proofs.lemmas.Slice.Eq.{bytes_eq-Decides}
+use Rattle.sl_num.specs.declared.comparing.Comparison.TheVariants.{Less}
+use Rattle.c_tree.specs.declared.tree.CArg.TheVariants.{Value}
+use Rattle.c_tree.specs.declared.tree.CBinary.TheVariants.{Add}
 use Rattle.c_tree.specs.declared.tree.CFile.{CFile}
 use Rattle.c_tree.specs.declared.tree.CStruct.{CStruct}
 use Rattle.c_tree.specs.declared.tree.CMember.{CMember}
+use Rattle.c_tree.specs.declared.tree.CVar.{CVar}
 use Rattle.c_tree.specs.declared.tree.CFun.{CFun}
+use Rattle.c_tree.specs.declared.tree.CPlace.{CPlace}
+use Rattle.c_tree.specs.declared.tree.CPlace.TheVariants.{Name}
 use Rattle.c_tree.specs.declared.tree.CStmt.{CStmt}
-use Rattle.c_tree.specs.declared.tree.CStmt.TheVariants.{Call, Return, Put}
+use Rattle.c_tree.specs.declared.tree.CStmt.TheVariants.{Call, If, Return, Put, Halt}
+use Rattle.c_tree.specs.declared.tree.CType.{CType}
 use Rattle.c_tree.specs.declared.tree.CType.TheVariants.{Int, Void}
-use Rattle.c_tree.specs.declared.tree.CExpr.TheVariants.{Const}
+use Rattle.c_tree.specs.declared.tree.CExpr.{CExpr}
+use Rattle.c_tree.specs.declared.tree.CExpr.TheVariants.{Binary, Compare, Negate}
 use Rattle.c_tree.specs.Words.{reserved_words}
-use Rattle.c_tree.specs.Bytes.{struct_extent}
-use Rattle.c_tree.specs.Rules.{var_names, fun_names, NamesClash, BreaksSizes, StandsBefore, IsDeclared, BreaksOutside, BreaksInside, Breaks, EndsByReturn, AreAlike, HasWrongValue, KeepsRules}
+use Rattle.c_tree.specs.Parts.{Leaf, Constant, Reads, leaves, Action, Assigns, Calls, Tests, Returns, Puts, Halts, actions_in}
+use Rattle.c_tree.specs.Bytes.{struct_extent, called}
+use Rattle.c_tree.specs.Scope.{Scope, scope_of, variable}
+use Rattle.c_tree.specs.Rules.{var_names, fun_names, NamesClash, BreaksSizes, StandsBefore, IsDeclared, NamesRead, NamesVariable, BreaksOutside, BreaksInside, Breaks, is_word, type_of_name, typed, HasExpr, HasOtherType, HasWrongValue, ArgumentsMisfit, last_is, ends_function, AreAlike, KeepsRules}
+use Rattle.c_tree.specs.Rules as rules
+use Rattle.c_tree.proofs.Variants.{leaves_are, types_are, actions_are, ends_are}
 use Rattle.c_tree.proofs.Lists.{in_none, first_in, second_in, of_one}
-use Rattle.c_tree.proofs.Small.{word, proto_of, function_with, inline_with, start_with, give, member_of}
+use Rattle.c_tree.proofs.Small.{word, proto_of, function_with, inline_with, start_with, signed, unsigned, named, give, bare_call, set, member_of}
+
+-- Typed functions -----------------------------------------------------------------------------------------------------
+
+-- a leaf names what is declared
+abbrev LeafKnown : Scope → Leaf → Type 0
+LeafKnown scope (Constant signed number) = Unit {0}
+LeafKnown scope (Reads (Name name)) = variable scope name ≢ None
+
+-- an expression names what is declared, and has this type
+record ExprKeeps (scope : Scope) (e : CExpr) (kind : CType) : Type 0 where
+  pub parts : List Leaf
+  pub are : leaves e ≡ parts
+  pub known : AllByRecursion (LeafKnown scope) parts
+  pub type : typed scope e ≡ record { type = Some kind; fits = true }
+
+-- arguments have the types of the parameters
+abbrev ArgumentsKeep : Scope → List CExpr → List CVar → Type 0
+ArgumentsKeep scope [] [] = Unit {0}
+ArgumentsKeep scope [] (param ∷ params) = ⊥
+ArgumentsKeep scope (e ∷ es) [] = ⊥
+ArgumentsKeep scope (e ∷ es) (param ∷ params) = ExprKeeps scope e param.kind × ArgumentsKeep scope es params
+
+-- there is a result for a place, which has its type
+abbrev TargetKeeps : Scope → Option CPlace → CType → Type 0
+TargetKeeps scope None result = Unit {0}
+TargetKeeps scope (Some (Name name)) result = (type_of_name scope name ≡ Some result) × (result ≢ Void)
+
+-- an expression that keeps the rules reads no variable that isn't declared
+reads_known : (scope : Scope) (e : CExpr) (kind : CType) → ExprKeeps scope e kind → (name : List ℕ) → NamesRead e name → variable scope name ≢ None
+reads_known scope e kind keeps name read =
+    All-contains (LeafKnown scope) keeps.parts (Reads (Name name)) (All-from_recursion (LeafKnown scope) keeps.parts keeps.known) (subst (λ parts. Contains parts (Reads (Name name))) keeps.are read)
+
+-- it has no other type
+right_type : (scope : Scope) (e : CExpr) (kind : CType) → ExprKeeps scope e kind → ¬ HasOtherType scope e kind
+right_type scope e kind keeps (other, is, differ) = let same : Some kind ≡ Some other = sym (ap (λ typed. typed.type) keeps.type) ∙ is in differ cc
+
+-- and its operands fit
+right_operands : (scope : Scope) (e : CExpr) (kind : CType) → ExprKeeps scope e kind → (typed scope e).fits ≢ false
+right_operands scope e kind keeps misfit = let same : true ≡ false = sym (ap (λ typed. typed.fits) keeps.type) ∙ misfit in cc
+
+-- a name with a type is declared
+declared_name : (scope : Scope) (name : List ℕ) (kind : CType) → type_of_name scope name ≡ Some kind → variable scope name ≢ None
+declared_name scope name kind is none = let same : None ≡ Some kind = sym (ap (λ var. option_map (λ (var : CVar). var.kind) var) none) ∙ is in cc
+
+-- arguments that keep the rules don't differ from the parameters
+right_arguments : (scope : Scope) (es : List CExpr) (params : List CVar) → ArgumentsKeep scope es params → ¬ ArgumentsMisfit scope es params
+right_arguments scope [] [] keeps misfit = misfit
+right_arguments scope [] (param ∷ params) keeps misfit = keeps
+right_arguments scope (e ∷ es) [] keeps misfit = keeps
+right_arguments scope (e ∷ es) (param ∷ params) keeps (inl other) = right_type scope e param.kind keeps.0 other
+right_arguments scope (e ∷ es) (param ∷ params) keeps (inr misfit) = right_arguments scope es params keeps.1 misfit
+
+-- each of them keeps the rules
+each_argument : (scope : Scope) (es : List CExpr) (params : List CVar) → ArgumentsKeep scope es params → All (λ e. (kind : CType) × ExprKeeps scope e kind) es
+each_argument scope [] params keeps = All-nil (λ e. (kind : CType) × ExprKeeps scope e kind)
+each_argument scope (e ∷ es) [] keeps = absurd keeps
+each_argument scope (e ∷ es) (param ∷ params) keeps = All-cons (λ e. (kind : CType) × ExprKeeps scope e kind) e es (param.kind, keeps.0) (each_argument scope es params keeps.1)
+
+-- so does one of them
+one_argument : (scope : Scope) (es : List CExpr) (params : List CVar) → ArgumentsKeep scope es params → (e : CExpr) → Contains es e → (kind : CType) × ExprKeeps scope e kind
+one_argument scope es params keeps e among = All-contains (λ e. (kind : CType) × ExprKeeps scope e kind) es e (each_argument scope es params keeps) among
+
+module _ (file : CFile) (function : CFun) where
+  -- what the function can name
+  abbrev inside : Scope
+  inside = scope_of file function
+
+  -- a call fits the one function with its name
+  record CallKeeps (target : Option CPlace) (name : List ℕ) (arguments : List CExpr) : Type 0 where
+    pub callee : CFun
+    pub only : AllByRecursion (λ other. other.name ≡ name → other ≡ callee) file.functions
+    pub fits : ArgumentsKeep inside arguments callee.params
+    pub stored : TargetKeeps inside target callee.result
+
+  -- an action keeps the rules of types
+  abbrev ActionKeeps : Action → Type 0
+  ActionKeeps (Assigns (Name name) e) = (kind : CType) × (type_of_name inside name ≡ Some kind) × ExprKeeps inside e kind
+  ActionKeeps (Calls target name arguments) = CallKeeps target name arguments
+  ActionKeeps (Tests test) = (kind : CType) × (is_word kind ≡ true) × ExprKeeps inside test kind
+  ActionKeeps (Returns None) = function.result ≡ Void
+  ActionKeeps (Returns (Some e)) = ExprKeeps inside e function.result
+  ActionKeeps (Puts e) = ExprKeeps inside e rules.word
+  ActionKeeps (Halts kind file line) = Unit {0}
+
+  -- a name that is called is declared and not hidden, and where the caller is inline it is that of an inline function before it
+  record NameKeeps (name : List ℕ) : Type 0 where
+    pub declared : IsDeclared file function name
+    pub seen : ¬ Contains (var_names (function.params ++ function.vars)) name
+    pub below : function.inline ≡ true → (callee : CFun) × StandsBefore file callee function × (callee.inline ≡ true) × (callee.name ≡ name)
+
+  -- a function that keeps the rules
+  record FunctionKeeps : Type 0 where
+    pub names : ¬ NamesClash (var_names (function.params ++ function.vars))
+    pub does : List Action
+    pub acts : actions_in function.body ≡ does
+    pub each : AllByRecursion ActionKeeps does
+    pub callees : List (List ℕ)
+    pub calls : called function ≡ callees
+    pub reached : AllByRecursion NameKeeps callees
+    pub ends : function.result ≢ Void → last_is (map ends_function function.body) ≡ true
+
+  module _ (keeps : FunctionKeeps) where
+    -- each of its actions does
+    action_keeps : (action : Action) → Contains (actions_in function.body) action → ActionKeeps action
+    action_keeps action among =
+        All-contains ActionKeeps keeps.does action (All-from_recursion ActionKeeps keeps.does keeps.each) (subst (λ actions. Contains actions action) keeps.acts among)
+
+    -- and each name that it calls
+    name_keeps : (name : List ℕ) → Contains (called function) name → NameKeeps name
+    name_keeps name among =
+        All-contains NameKeeps keeps.callees name (All-from_recursion NameKeeps keeps.callees keeps.reached) (subst (λ names. Contains names name) keeps.calls among)
+
+    -- the target of a call is declared
+    target_known : (target : Option CPlace) (result : CType) → TargetKeeps inside target result → (name : List ℕ) → target ≡ Some (Name name) → variable inside name ≢ None
+    target_known None result kept name is = cc
+    target_known (Some (Name other)) result kept name is =
+        let same : other ≡ name = cc in subst (λ name. variable inside name ≢ None) same (declared_name inside other result kept.0)
+
+    -- an action names no variable that isn't declared
+    names_known : (action : Action) → ActionKeeps action → (name : List ℕ) → NamesVariable action name → variable inside name ≢ None
+    names_known (Assigns (Name other) e) kept name (inl is) =
+        let same : other ≡ name = cc in subst (λ name. variable inside name ≢ None) same (declared_name inside other kept.0 kept.1)
+    names_known (Assigns (Name other) e) kept name (inr read) = reads_known inside e kept.0 kept.2 name read
+    names_known (Calls target callee arguments) kept name (inl is) = target_known target kept.callee.result kept.stored name is
+    names_known (Calls target callee arguments) kept name (inr (e, among, read)) =
+        let argument : (kind : CType) × ExprKeeps inside e kind = one_argument inside arguments kept.callee.params kept.fits e among in
+        reads_known inside e argument.0 argument.1 name read
+    names_known (Tests test) kept name read = reads_known inside test kept.0 kept.2 name read
+    names_known (Returns None) kept name (e, is, read) = cc
+    names_known (Returns (Some value)) kept name (e, is, read) =
+        let same : value ≡ e = cc in reads_known inside value function.result kept name (subst (λ e. NamesRead e name) (sym same) read)
+    names_known (Puts e) kept name read = reads_known inside e rules.word kept name read
+    names_known (Halts kind file line) kept name read = absurd read
+
+    -- the operands in its expressions fit
+    operands_right : (action : Action) → ActionKeeps action → (e : CExpr) → HasExpr action e → (typed inside e).fits ≢ false
+    operands_right (Assigns (Name other) value) kept e is = subst (λ e. (typed inside e).fits ≢ false) is (right_operands inside value kept.0 kept.2)
+    operands_right (Calls target callee arguments) kept e among =
+        let argument : (kind : CType) × ExprKeeps inside e kind = one_argument inside arguments kept.callee.params kept.fits e among in
+        right_operands inside e argument.0 argument.1
+    operands_right (Tests test) kept e is = subst (λ e. (typed inside e).fits ≢ false) is (right_operands inside test kept.0 kept.2)
+    operands_right (Returns None) kept e is = cc
+    operands_right (Returns (Some value)) kept e is =
+        let same : value ≡ e = cc in subst (λ e. (typed inside e).fits ≢ false) same (right_operands inside value function.result kept)
+    operands_right (Puts value) kept e is = subst (λ e. (typed inside e).fits ≢ false) is (right_operands inside value rules.word kept)
+    operands_right (Halts kind file line) kept e is = absurd is
+
+    -- and its value has the type that is wanted
+    value_right : (action : Action) → ActionKeeps action → ¬ HasWrongValue inside function action
+    value_right (Assigns (Name name) e) kept (kind, is, other) =
+        let same : Some kept.0 ≡ Some kind = sym kept.1 ∙ is in
+        let right : kept.0 ≡ kind = cc in
+        right_type inside e kind (subst (ExprKeeps inside e) right kept.2) other
+    value_right (Calls target callee arguments) kept wrong = wrong
+    value_right (Tests test) kept wrong = wrong
+    value_right (Returns None) kept wrong = wrong kept
+    value_right (Returns (Some e)) kept wrong = right_type inside e function.result kept wrong
+    value_right (Puts e) kept wrong = right_type inside e rules.word kept wrong
+    value_right (Halts kind file line) kept wrong = wrong
+
+    -- what is called so is the one function with the name
+    same_callee : (callee : CFun) (target : Option CPlace) (arguments : List CExpr) → Contains file.functions callee → (kept : CallKeeps target callee.name arguments) → callee ≡ kept.callee
+    same_callee callee target arguments among kept =
+        All-contains (λ other. other.name ≡ callee.name → other ≡ kept.callee) file.functions callee (All-from_recursion (λ other. other.name ≡ callee.name → other ≡ kept.callee) file.functions kept.only) among refl
+
+    -- a result has a place of its type
+    result_right : (place : CPlace) (result : CType) → TargetKeeps inside (Some place) result → ¬ ((result ≡ Void) ⊎ ((kind : CType) × (rules.type_of_place inside place ≡ Some kind) × (kind ≢ result)))
+    result_right (Name name) result kept (inl none) = kept.1 none
+    result_right (Name name) result kept (inr (kind, is, differ)) = let same : Some result ≡ Some kind = sym kept.0 ∙ is in differ cc
+
+    -- so it breaks no rule
+    function_keeps : (rule : ℕ) → ¬ BreaksInside file function rule
+    function_keeps rule (inl (is, clash)) = keeps.names clash
+    function_keeps rule (inr (inl (is, inl (name, among, inl undeclared)))) = undeclared (name_keeps name among).declared
+    function_keeps rule (inr (inl (is, inl (name, among, inr hidden)))) = (name_keeps name among).seen hidden
+    function_keeps rule (inr (inl (is, inr (action, name, among, has, none)))) = names_known action (action_keeps action among) name has none
+    function_keeps rule (inr (inr (inl (is, (action, e, among, has, misfit))))) = operands_right action (action_keeps action among) e has misfit
+    function_keeps rule (inr (inr (inr (inl (is, (action, among, wrong)))))) = value_right action (action_keeps action among) wrong
+    function_keeps rule (inr (inr (inr (inr (inl (is, (callee, target, arguments, so, misfit))))))) =
+        let kept : CallKeeps target callee.name arguments = action_keeps (Calls target callee.name arguments) so.1 in
+        right_arguments inside arguments kept.callee.params kept.fits (subst (λ callee. ArgumentsMisfit inside arguments callee.params) (same_callee callee target arguments so.0 kept) misfit)
+    function_keeps rule (inr (inr (inr (inr (inr (inl (is, (callee, place, arguments, so, wrong)))))))) =
+        let kept : CallKeeps (Some place) callee.name arguments = action_keeps (Calls (Some place) callee.name arguments) so.1 in
+        result_right place callee.result (subst (λ callee. TargetKeeps inside (Some place) callee.result) (sym (same_callee callee (Some place) arguments so.0 kept)) kept.stored) wrong
+    function_keeps rule (inr (inr (inr (inr (inr (inr (inl (is, (test, other, among, has, narrow))))))))) =
+        let kept : (kind : CType) × (is_word kind ≡ true) × ExprKeeps inside test kind = action_keeps (Tests test) among in
+        let same : Some kept.0 ≡ Some other = sym (ap (λ typed. typed.type) kept.2.type) ∙ has in
+        let right : kept.0 ≡ other = cc in
+        let wide : true ≡ false = sym kept.1 ∙ (ap is_word right ∙ narrow) in
+        cc
+    function_keeps rule (inr (inr (inr (inr (inr (inr (inr (inl (is, (inline, (name, among, not))))))))))) =
+        let below : (callee : CFun) × StandsBefore file callee function × (callee.inline ≡ true) × (callee.name ≡ name) = (name_keeps name among).below inline in
+        not below.0 below.1 below.2 below.3
+    function_keeps rule (inr (inr (inr (inr (inr (inr (inr (inr (is, (result, ended)))))))))) = let same : true ≡ false = sym (keeps.ends result) ∙ ended in cc
 
 -- The tree -----------------------------------------------------------------------------------------------------------
 
--- a struct of an array and a union
+-- a union of two members
 abbrev union_member : CMember
 union_member = record { name = codes "u"; kind = Void; count = None; choice = word (codes "a") ∷ word (codes "b") ∷ [] }
 
--- the struct of both
+-- the struct of an array and this union
 abbrev struct : CStruct
 struct = record { name = codes "s"; members = member_of (codes "a") (Some (2 ^ 20)) ∷ union_member ∷ [] }
 
--- an inline function, and another that calls it
+-- an inline function that puts its parameter
 abbrev low : CFun
-low = inline_with (codes "h") Void (Put (Const true 65) ∷ [])
+low = record (inline_with (codes "h") Void (Put (named (codes "x")) ∷ [])) { params = word (codes "x") ∷ [] }
 
 -- one that calls it
 abbrev high : CFun
-high = inline_with (codes "i") Void (Call (codes "h") ∷ [])
+high = inline_with (codes "i") Void (Call None (codes "h") (Value (signed 65) ∷ []) ∷ [])
 
--- `sl_main` calls an inline function and a function behind it
+-- `a = k((INT64_C(1) + INT64_C(2)));`
+abbrev taking : CStmt
+taking = Call (Some (Name (codes "a"))) (codes "k") (Value (Binary Add (signed 1) (signed 2)) ∷ [])
+
+-- `if ((int64_t)(a < INT64_C(0))) { return (-a); } else { i(); return INT64_C(0); }`
+abbrev choosing : CStmt
+choosing = If (Compare Less (named (codes "a")) (signed 0)) (Return (Some (Negate (named (codes "a")))) ∷ []) (Some (bare_call (codes "i") ∷ give 0 ∷ []))
+
+-- `sl_main` does both
 abbrev start : CFun
-start = start_with (Call (codes "i") ∷ Call (codes "f") ∷ give 0 ∷ [])
+start = record (start_with (taking ∷ choosing ∷ [])) { vars = word (codes "a") ∷ [] }
 
--- a function with a variable, which calls itself
-abbrev other : CFun
-other = record (function_with (codes "f") Void (Call (codes "h") ∷ Call (codes "f") ∷ Return None ∷ [])) { vars = word (codes "h0") ∷ [] }
-
--- a function with a parameter
-abbrev with_parameter : CFun
-with_parameter = record (function_with (codes "k") (Int false 64) (Return (Some (Const false 1)) ∷ [])) { params = word (codes "f") ∷ [] }
+-- a function that stores its parameter in the global, whose name is that of a function, and returns it
+abbrev last : CFun
+last =
+    record (function_with (codes "k") (Int true 64) (set (codes "g") (named (codes "h")) ∷ If (unsigned 0) (Halt 1 0 2 ∷ []) None ∷ Return (Some (named (codes "g"))) ∷ [])) {
+      params = word (codes "h") ∷ [];
+    }
 
 -- the whole tree
 abbrev pub file : CFile
 file = record {
   structs = struct ∷ [];
   globals = word (codes "g") ∷ [];
-  protos = proto_of other ∷ proto_of start ∷ proto_of with_parameter ∷ [];
-  functions = low ∷ high ∷ start ∷ other ∷ with_parameter ∷ [];
+  protos = proto_of start ∷ proto_of last ∷ [];
+  functions = low ∷ high ∷ start ∷ last ∷ [];
 }
 
 -- Names --------------------------------------------------------------------------------------------------------------
@@ -80,9 +295,9 @@ none_clash = no_clash [] tt tt
 globals_keep : ¬ NamesClash (var_names file.globals ++ fun_names file.functions)
 unfolding IsDistinct
 globals_keep =
-    no_clash (codes "g" ∷ codes "h" ∷ codes "i" ∷ codes "sl_main" ∷ codes "f" ∷ codes "k" ∷ [])
-    ((refl, (refl, (refl, (refl, (refl, tt))))), ((refl, (refl, (refl, (refl, tt)))), ((refl, (refl, (refl, tt))), ((refl, (refl, tt)), ((refl, tt), (tt, tt))))))
-    (free (codes "g") refl refl, (free (codes "h") refl refl, (free (codes "i") refl refl, (free (codes "sl_main") refl refl, (free (codes "f") refl refl, (free (codes "k") refl refl, tt))))))
+    no_clash (codes "g" ∷ codes "h" ∷ codes "i" ∷ codes "sl_main" ∷ codes "k" ∷ [])
+    ((refl, (refl, (refl, (refl, tt)))), ((refl, (refl, (refl, tt))), ((refl, (refl, tt)), ((refl, tt), (tt, tt)))))
+    (free (codes "g") refl refl, (free (codes "h") refl refl, (free (codes "i") refl refl, (free (codes "sl_main") refl refl, (free (codes "k") refl refl, tt)))))
 
 -- the name of the struct, those of its members, and those of the union's
 struct_keeps : ¬ NamesClash (codes "s" ∷ [])
@@ -124,7 +339,7 @@ HasProto function = function.inline ≡ false → count_by (λ proto. bytes_eq p
 
 -- each function here has
 one_proto : AllByRecursion HasProto file.functions
-one_proto = (λ no. cc, (λ no. cc, (λ no. refl, (λ no. refl, (λ no. refl, tt)))))
+one_proto = (λ no. cc, (λ no. cc, (λ no. refl, (λ no. refl, tt))))
 
 -- and each prototype has such a function
 abbrev IsAlone : CFun → Type 0
@@ -133,11 +348,8 @@ IsAlone proto = (function : CFun) → Contains file.functions function → funct
 -- no prototype here is alone
 no_alone : AllByRecursion (λ proto. ¬ IsAlone proto) file.protos
 no_alone = (
-  λ alone. alone other (3, omega arith, refl) refl (record { name = refl; result = refl; params = refl }),
-  (
-    λ alone. alone start (2, omega arith, refl) refl (record { name = refl; result = refl; params = refl }),
-    (λ alone. alone with_parameter (4, omega arith, refl) refl (record { name = refl; result = refl; params = refl }), tt),
-  ),
+  λ alone. alone start (2, omega arith, refl) refl (record { name = refl; result = refl; params = refl }),
+  (λ alone. alone last (3, omega arith, refl) refl (record { name = refl; result = refl; params = refl }), tt),
 )
 
 -- nothing is broken outside functions
@@ -153,156 +365,147 @@ outside_keeps rule (inr (inr (is, inr (inr none)))) = none start (2, omega arith
 
 -- In functions -------------------------------------------------------------------------------------------------------
 
--- a call keeps the rules: its name is declared and not hidden, no function with parameters has it, and where the caller is
--- inline it is that of an inline function before it
-pub record CallKeeps (function : CFun) (name : List ℕ) : Type 0 where
-  pub declared : IsDeclared file function name
-  pub seen : ¬ Contains (var_names (function.params ++ function.vars)) name
-  pub bare : AllByRecursion (λ callee. callee.name ≡ name → callee.params ≡ []) file.functions
-  pub below : function.inline ≡ true → (callee : CFun) × StandsBefore file callee function × (callee.inline ≡ true) × (callee.name ≡ name)
-
--- a statement keeps the rules
-abbrev StmtKeeps : CFun → CStmt → Type 0
-StmtKeeps function (Call name) = CallKeeps function name
-StmtKeeps function (Return value) = ¬ HasWrongValue function (Return value)
-StmtKeeps function (Put value) = ¬ HasWrongValue function (Put value)
-
--- what a statement that keeps them isn't
-right_value : (function : CFun) (stmt : CStmt) → StmtKeeps function stmt → ¬ HasWrongValue function stmt
-right_value function (Call name) keeps wrong = wrong
-right_value function (Return value) keeps wrong = keeps wrong
-right_value function (Put value) keeps wrong = keeps wrong
-
--- a function that keeps the rules
-pub record FunctionKeeps (function : CFun) : Type 0 where
-  pub names : ¬ NamesClash (var_names (function.params ++ function.vars))
-  pub stmts : AllByRecursion (StmtKeeps function) function.body
-  pub ends : function.result ≢ Void → EndsByReturn function.body
-
--- each of its statements does
-stmt_at : (function : CFun) → FunctionKeeps function → (stmt : CStmt) → Contains function.body stmt → StmtKeeps function stmt
-stmt_at function keeps stmt among = All-contains (StmtKeeps function) function.body stmt (All-from_recursion (StmtKeeps function) function.body keeps.stmts) among
-
--- and so it breaks none
-function_keeps : (function : CFun) → FunctionKeeps function → (rule : ℕ) → ¬ BreaksInside file function rule
-function_keeps function keeps rule (inl (is, clash)) = keeps.names clash
-function_keeps function keeps rule (inr (inl (is, (name, among, inl undeclared)))) = undeclared (stmt_at function keeps (Call name) among).declared
-function_keeps function keeps rule (inr (inl (is, (name, among, inr hidden)))) = (stmt_at function keeps (Call name) among).seen hidden
-function_keeps function keeps rule (inr (inr (inl (is, h)))) = right_value function h.0 (stmt_at function keeps h.0 h.1) h.2
-function_keeps function keeps rule (inr (inr (inr (inl (is, h))))) =
-    let bare : AllByRecursion (λ callee. callee.name ≡ h.0.name → callee.params ≡ []) file.functions = (stmt_at function keeps (Call h.0.name) h.2).bare in
-    h.3 (All-contains (λ callee. callee.name ≡ h.0.name → callee.params ≡ []) file.functions h.0 (All-from_recursion (λ callee. callee.name ≡ h.0.name → callee.params ≡ []) file.functions bare) h.1 refl)
-function_keeps function keeps rule (inr (inr (inr (inr (inl (is, h)))))) =
-    let below : (callee : CFun) × StandsBefore file callee function × (callee.inline ≡ true) × (callee.name ≡ h.1.0) = (stmt_at function keeps (Call h.1.0) h.1.1).below h.0 in
-    h.1.2 below.0 below.1 below.2 below.3
-function_keeps function keeps rule (inr (inr (inr (inr (inr (is, h)))))) = h.1 (keeps.ends h.0)
-
 -- names that differ aren't equal
 names_differ : (a b : List ℕ) → bytes_eq a b ≡ false → a ≢ b
 names_differ a b differ same = let equal : bytes_eq a b ≡ true = (bytes_eq-Decides a b).1 same in cc
 
--- no function with parameters has a name that isn't `k`
-bare_of : (name : List ℕ) → bytes_eq (codes "k") name ≡ false → AllByRecursion (λ callee. callee.name ≡ name → callee.params ≡ []) file.functions
-bare_of name differ = (λ _. refl, (λ _. refl, (λ _. refl, (λ _. refl, (λ same. absurd (names_differ (codes "k") name differ same), tt)))))
+-- a constant keeps the rules
+constant_keeps : (scope : Scope) (number : ℕ) → ExprKeeps scope (signed number) (Int true 64)
+constant_keeps scope number = record { parts = Constant true number ∷ []; are = simp leaves_are; known = (tt, tt); type = simp types_are }
+
+-- a name that is declared does
+name_keeps_rules : (scope : Scope) (name : List ℕ) → type_of_name scope name ≡ Some (Int true 64) → ExprKeeps scope (named name) (Int true 64)
+name_keeps_rules scope name is = record {
+  parts = Reads (Name name) ∷ [];
+  are = simp leaves_are;
+  known = (declared_name scope name (Int true 64) is, tt);
+  type = simp types_are (ap (λ type. record { type = type; fits = true }) is);
+}
 
 -- the inline functions stand before those that follow them
 low_before_high : StandsBefore file low high
-low_before_high = (low ∷ [], start ∷ other ∷ with_parameter ∷ [], refl, first_in low [])
+low_before_high = (low ∷ [], start ∷ last ∷ [], refl, first_in low [])
 
 -- the one that calls it stands before `sl_main`
 high_before_start : StandsBefore file high start
-high_before_start = (low ∷ high ∷ [], other ∷ with_parameter ∷ [], refl, second_in low high [])
+high_before_start = (low ∷ high ∷ [], last ∷ [], refl, second_in low high [])
 
--- the first stands before the last but one
-low_before_other : StandsBefore file low other
-low_before_other = (low ∷ high ∷ start ∷ [], with_parameter ∷ [], refl, first_in low (high ∷ start ∷ []))
+-- a single local name doesn't clash
+one_keeps : (name : List ℕ) → list_any (bytes_eq name) reserved_words ≡ false → bytes_eq name name ≡ true → ¬ NamesClash (name ∷ [])
+unfolding IsDistinct
+one_keeps name none same = no_clash (name ∷ []) (tt, tt) (free name none same, tt)
 
 -- each function keeps the rules
-low_keeps : FunctionKeeps low
-low_keeps = record { names = none_clash; stmts = (λ wrong. wrong refl, tt); ends = λ not. absurd (not refl) }
+low_keeps : FunctionKeeps file low
+low_keeps = record {
+  names = one_keeps (codes "x") refl refl;
+  does = Puts (named (codes "x")) ∷ [];
+  acts = simp actions_are;
+  each = (name_keeps_rules (scope_of file low) (codes "x") refl, tt);
+  callees = [];
+  calls = simp actions_are;
+  reached = tt;
+  ends = λ not. absurd (not refl);
+}
 
 -- so does the inline function that calls another
-high_keeps : FunctionKeeps high
+high_keeps : FunctionKeeps file high
 high_keeps = record {
   names = none_clash;
-  stmts = (
+  does = Calls None (codes "h") (signed 65 ∷ []) ∷ [];
+  acts = simp actions_are;
+  each = (
     record {
-      declared = inr (inr (low, low_before_high, refl));
-      seen = in_none (codes "h");
-      bare = bare_of (codes "h") refl;
-      below = λ _. (low, low_before_high, refl, refl);
+      callee = low;
+      only = (λ _. refl, (λ same. absurd (names_differ (codes "i") (codes "h") refl same), (λ same. absurd (names_differ (codes "sl_main") (codes "h") refl same), (λ same. absurd (names_differ (codes "k") (codes "h") refl same), tt))));
+      fits = (constant_keeps (scope_of file high) 65, tt);
+      stored = tt;
     },
     tt,
   );
+  callees = codes "h" ∷ [];
+  calls = simp actions_are;
+  reached = (record { declared = inr (inr (low, low_before_high, refl)); seen = in_none (codes "h"); below = λ _. (low, low_before_high, refl, refl) }, tt);
   ends = λ not. absurd (not refl);
 }
 
 -- so does `sl_main`
-start_keeps : FunctionKeeps start
+start_keeps : FunctionKeeps file start
 start_keeps = record {
-  names = none_clash;
-  stmts = (
+  names = one_keeps (codes "a") refl refl;
+  does =
+      Calls (Some (Name (codes "a"))) (codes "k") (Binary Add (signed 1) (signed 2) ∷ [])
+      ∷ Tests (Compare Less (named (codes "a")) (signed 0))
+      ∷ Returns (Some (Negate (named (codes "a"))))
+      ∷ Calls None (codes "i") []
+      ∷ Returns (Some (signed 0))
+      ∷ [];
+  acts = simp actions_are;
+  each = (
     record {
-      declared = inr (inr (high, high_before_start, refl));
-      seen = in_none (codes "i");
-      bare = bare_of (codes "i") refl;
+      callee = last;
+      only = (λ same. absurd (names_differ (codes "h") (codes "k") refl same), (λ same. absurd (names_differ (codes "i") (codes "k") refl same), (λ same. absurd (names_differ (codes "sl_main") (codes "k") refl same), (λ _. refl, tt))));
+      fits = (record { parts = Constant true 1 ∷ Constant true 2 ∷ []; are = simp leaves_are; known = (tt, (tt, tt)); type = simp types_are }, tt);
+      stored = (refl, λ same. cc);
+    },
+    (
+      (Int true 64, refl, record { parts = Reads (Name (codes "a")) ∷ Constant true 0 ∷ []; are = simp leaves_are; known = (λ none. cc, (tt, tt)); type = simp types_are }),
+      (
+        record { parts = Reads (Name (codes "a")) ∷ []; are = simp leaves_are; known = (λ none. cc, tt); type = simp types_are },
+        (
+          record {
+            callee = high;
+            only = (λ same. absurd (names_differ (codes "h") (codes "i") refl same), (λ _. refl, (λ same. absurd (names_differ (codes "sl_main") (codes "i") refl same), (λ same. absurd (names_differ (codes "k") (codes "i") refl same), tt))));
+            fits = tt;
+            stored = tt;
+          },
+          (constant_keeps (scope_of file start) 0, tt),
+        ),
+      ),
+    ),
+  );
+  callees = codes "k" ∷ codes "i" ∷ [];
+  calls = simp actions_are;
+  reached = (
+    record {
+      declared = inl (1, omega arith, refl);
+      seen = λ among. of_one (λ name. name ≢ codes "k") (codes "a") (codes "k") (names_differ (codes "a") (codes "k") refl) among refl;
       below = λ no. cc;
     },
     (
       record {
-        declared = inl (0, omega arith, refl);
-        seen = in_none (codes "f");
-        bare = bare_of (codes "f") refl;
+        declared = inr (inr (high, high_before_start, refl));
+        seen = λ among. of_one (λ name. name ≢ codes "i") (codes "a") (codes "i") (names_differ (codes "a") (codes "i") refl) among refl;
         below = λ no. cc;
       },
-      (λ wrong. wrong refl, tt),
+      tt,
     ),
   );
-  ends = λ _. (Call (codes "i") ∷ Call (codes "f") ∷ [], Some (Const true 0), refl);
+  ends = λ _. simp ends_are;
 }
 
--- the name of a variable doesn't clash
-other_names : ¬ NamesClash (codes "h0" ∷ [])
-unfolding IsDistinct
-other_names = no_clash (codes "h0" ∷ []) (tt, tt) (free (codes "h0") refl refl, tt)
-
--- so does the function with a variable
-other_keeps : FunctionKeeps other
-other_keeps = record {
-  names = other_names;
-  stmts = (
-    record {
-      declared = inr (inr (low, low_before_other, refl));
-      seen = λ among. of_one (λ name. name ≢ codes "h") (codes "h0") (codes "h") (λ same. cc) among refl;
-      bare = bare_of (codes "h") refl;
-      below = λ no. cc;
-    },
+-- so does the last function
+last_keeps : FunctionKeeps file last
+last_keeps = record {
+  names = one_keeps (codes "h") refl refl;
+  does = Assigns (Name (codes "g")) (named (codes "h")) ∷ Tests (unsigned 0) ∷ Halts 1 0 2 ∷ Returns (Some (named (codes "g"))) ∷ [];
+  acts = simp actions_are;
+  each = (
+    (Int true 64, refl, name_keeps_rules (scope_of file last) (codes "h") refl),
     (
-      record {
-        declared = inr (inl refl);
-        seen = λ among. of_one (λ name. name ≢ codes "f") (codes "h0") (codes "f") (λ same. cc) among refl;
-        bare = bare_of (codes "f") refl;
-        below = λ no. cc;
-      },
-      (λ wrong. wrong refl, tt),
+      (Int false 64, refl, record { parts = Constant false 0 ∷ []; are = simp leaves_are; known = (tt, tt); type = simp types_are }),
+      (tt, (name_keeps_rules (scope_of file last) (codes "g") refl, tt)),
     ),
   );
-  ends = λ not. absurd (not refl);
+  callees = [];
+  calls = simp actions_are;
+  reached = tt;
+  ends = λ _. simp ends_are;
 }
-
--- the name of a parameter doesn't clash, though a function has it
-parameter_names : ¬ NamesClash (codes "f" ∷ [])
-unfolding IsDistinct
-parameter_names = no_clash (codes "f" ∷ []) (tt, tt) (free (codes "f") refl refl, tt)
-
--- so does the function with a parameter
-parameter_keeps : FunctionKeeps with_parameter
-parameter_keeps = record { names = parameter_names; stmts = (λ wrong. wrong refl, tt); ends = λ _. ([], Some (Const false 1), refl) }
 
 -- nothing is broken in any
 inside_keeps : AllByRecursion (λ function. (rule : ℕ) → ¬ BreaksInside file function rule) file.functions
-inside_keeps =
-    (function_keeps low low_keeps, (function_keeps high high_keeps, (function_keeps start start_keeps, (function_keeps other other_keeps, (function_keeps with_parameter parameter_keeps, tt)))))
+inside_keeps = (function_keeps file low low_keeps, (function_keeps file high high_keeps, (function_keeps file start start_keeps, (function_keeps file last last_keeps, tt))))
 
 -- so no rule is broken
 pub file_keeps_rules : KeepsRules file

@@ -1,5 +1,5 @@
 -- What is short to say of the elements of short lists.
-use Rattle.std.proofs.Common.{◌≡◌, ◌≢◌, List, [], ◌∷◌, ◌++◌, refl, ◌∙◌, arith, Contains}
+use Rattle.std.proofs.Common.{◌≡◌, ◌≢◌, List, [], ◌∷◌, ◌++◌, refl, sym, subst, ◌∙◌, arith, Contains}
 use Rattle.std.proofs.lemmas.List.Elements.{All-nil, All-cons, All-contains}
 
 -- nothing is in the empty list
@@ -13,6 +13,10 @@ first_in x xs = (0, omega arith, refl)
 -- and so is the second
 pub second_in : {X : Type 0} (x y : X) (xs : List X) → Contains (x ∷ y ∷ xs) y
 second_in x y xs = (1, omega arith, refl)
+
+-- what is in one of two lists that are the same is in the other
+pub in_same : {X : Type 0} {x : X} {xs ys : List X} → xs ≡ ys → Contains ys x → Contains xs x
+in_same {X} {x} same among = subst (λ list. Contains list x) (sym same) among
 
 -- what holds of the one element of a list holds of what is in it
 pub of_one : {X : Type 0} (P : X → Type 0) (x y : X) → P x → Contains (x ∷ []) y → P y

@@ -1,5 +1,5 @@
 -- What is read from memory is what was written there, and the bytes that are live are those of the frames.
-use Rattle.std.proofs.Common.{◌≡◌, ◌≢◌, ℕ, ◌+◌, List, [], ◌∷◌, Some, None, refl, sym, ap, ◌∙◌, if◌then◌else◌, eq-eqb, ne_eqb}
+use Rattle.std.proofs.Common.{◌≡◌, ◌≢◌, ℕ, ◌+◌, List, [], ◌∷◌, ◌++◌, Some, None, refl, sym, ap, ◌∙◌, if◌then◌else◌, eq-eqb, ne_eqb}
 use Rattle.std.specs.Prelude.{pos, codes, length, replicate, unwrap_or, option_and_then}
 use Rattle.std.proofs.lemmas.List.Sums.{sum-map, sum_by-cons}
 use Rattle.sl_run.specs.Run.{Trace, Went}
@@ -42,8 +42,8 @@ frame_is_live frame memory =
     ∙ ap (λ more. frame.bytes + more) (sym (sum-map (λ frame. frame.bytes) memory.frames)))
 
 -- the frame of an inline function belongs to the function below whose frame it is, and counts no bytes
-pub inline_frame : (function : CFun) (t : Trace) (memory : Memory) → begin_inline function t memory ≡ Went tt t (with_frame (record { owner = owner_of memory.frames; bytes = 0; vars = replicate (length function.vars) Unwritten }) memory)
-inline_frame function t memory = refl
+pub inline_frame : (function : CFun) (args : List Tree) (t : Trace) (memory : Memory) → begin_inline function args t memory ≡ Went tt t (with_frame (record { owner = owner_of memory.frames; bytes = 0; vars = args ++ replicate (length function.vars) Unwritten }) memory)
+inline_frame function args t memory = refl
 
 -- in a frame the arguments stand first, and then the variables, which are unwritten
 pub arguments_first : (t : Trace) (memory : Memory) → begin 3 24 (record (function_with (codes "f") Void []) { params = word (codes "a") ∷ []; vars = word (codes "b") ∷ [] }) (Number (pos 5) ∷ []) t memory ≡ Went tt t (with_frame (record { owner = 3; bytes = 24; vars = Number (pos 5) ∷ Unwritten ∷ [] }) memory)

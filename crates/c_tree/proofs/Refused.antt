@@ -1,19 +1,26 @@
--- Each rule is broken by a small tree, and a tree of `sl_main` alone breaks none.
-use Rattle.std.proofs.Common.{◌≡◌, ◌≢◌, ℕ, ◌+◌, ◌^◌, List, [], ◌∷◌, Bool, true, false, Some, None, refl, sym, ap, ◌∙◌, inl, inr, arith, Contains, codes, bytes_eq}
-use Rattle.std.specs.List.{list_any, count_by, IsDistinct}
-use Rattle.std.proofs.lemmas.List.Folds.{list_any_at}
+-- Each rule is broken by a small tree.
+use Rattle.std.proofs.Common.{◌≡◌, ◌≢◌, ℕ, ◌+◌, ◌^◌, List, [], ◌∷◌, true, false, Some, None, refl, sym, ap, ◌∙◌, inl, inr, arith, Contains, codes, bytes_eq}
+use Rattle.std.specs.List.{list_any, IsDistinct}
+use Rattle.c_tree.specs.declared.tree.CArg.TheVariants.{Value}
+use Rattle.c_tree.specs.declared.tree.CBinary.TheVariants.{Add}
 use Rattle.c_tree.specs.declared.tree.CFile.{CFile}
 use Rattle.c_tree.specs.declared.tree.CStruct.{CStruct}
 use Rattle.c_tree.specs.declared.tree.CMember.{CMember}
 use Rattle.c_tree.specs.declared.tree.CFun.{CFun}
+use Rattle.c_tree.specs.declared.tree.CPlace.TheVariants.{Name}
 use Rattle.c_tree.specs.declared.tree.CStmt.{CStmt}
-use Rattle.c_tree.specs.declared.tree.CStmt.TheVariants.{Call, Return, Put}
+use Rattle.c_tree.specs.declared.tree.CStmt.TheVariants.{Call, If, Return, Put}
+use Rattle.c_tree.specs.declared.tree.CType.{CType}
 use Rattle.c_tree.specs.declared.tree.CType.TheVariants.{Int, Void}
-use Rattle.c_tree.specs.declared.tree.CExpr.TheVariants.{Const}
-use Rattle.c_tree.specs.Words.{reserved_words}
-use Rattle.c_tree.specs.Rules.{var_names, NamesClash, IsDeclared, BreaksOutside, BreaksInside, Breaks, EndsByReturn, AreAlike, HasWrongValue, IsStart, KeepsRules}
-use Rattle.c_tree.proofs.Lists.{in_none, first_in, second_in, of_one, not_empty, before_one, before_two}
-use Rattle.c_tree.proofs.Small.{proto_of, word, function_with, inline_with, start_with, give, file_with, start_alone, member_of, struct_alone}
+use Rattle.c_tree.specs.declared.tree.CExpr.{CExpr}
+use Rattle.c_tree.specs.declared.tree.CExpr.TheVariants.{Binary, Negate}
+use Rattle.c_tree.specs.Parts.{Reads, Action, Assigns, Calls, Tests, Returns, Puts, actions_in}
+use Rattle.c_tree.specs.Bytes.{called}
+use Rattle.c_tree.specs.Scope.{Scope, scope_of}
+use Rattle.c_tree.specs.Rules.{var_names, typed, NamesClash, IsDeclared, BreaksOutside, BreaksInside, Breaks, AreAlike, IsStart}
+use Rattle.c_tree.proofs.Variants.{actions_are, leaves_are, types_are, ends_are}
+use Rattle.c_tree.proofs.Lists.{in_none, first_in, second_in, in_same, of_one, before_one, before_two}
+use Rattle.c_tree.proofs.Small.{proto_of, word, function_with, inline_with, start_with, signed, unsigned, named, give, bare_call, set, file_with, start_alone, member_of, struct_alone}
 
 -- What is broken where -----------------------------------------------------------------------------------------------
 
@@ -26,6 +33,14 @@ outside file rule broken = inl (refl, broken)
 in_first : (file : CFile) (rule : ℕ) (function : CFun) (others : List CFun) → file.functions ≡ function ∷ others → BreaksInside file function rule → Breaks file rule function.line
 unfolding Breaks
 in_first file rule function others these broken = inr (function, rw these (first_in function others), refl, broken)
+
+-- a file of one function, with its prototype
+abbrev alone : CFun → CFile
+alone function = file_with (function ∷ []) (function ∷ [])
+
+-- what is broken in it is broken on line 20
+in_alone : (rule : ℕ) (function : CFun) → function.line ≡ 20 → BreaksInside (alone function) function rule → Breaks (alone function) rule 20
+in_alone rule function line broken = rw (← line) (in_first (alone function) rule function [] refl broken)
 
 -- 10 -----------------------------------------------------------------------------------------------------------------
 
@@ -90,19 +105,21 @@ names_inside = in_first (file_with [] (local_twice ∷ [])) 10 local_twice [] re
 
 -- `sl_main` calls `f`
 abbrev caller : CFun
-caller = start_with (Call (codes "f") ∷ give 0 ∷ [])
+caller = start_with (bare_call (codes "f") ∷ give 0 ∷ [])
+
+-- its one call
+caller_calls : called caller ≡ codes "f" ∷ []
+caller_calls = simp actions_are
 
 -- nothing declares `f` where there is no such function
-not_declared : ¬ IsDeclared (file_with (caller ∷ []) (caller ∷ [])) caller (codes "f")
+not_declared : ¬ IsDeclared (alone caller) caller (codes "f")
 not_declared (inl declared) = of_one (λ name. name ≢ codes "f") (codes "sl_main") (codes "f") (λ same. cc) declared refl
 not_declared (inr (inl itself)) = cc
 not_declared (inr (inr h)) = before_one caller caller h.0 h.1.0 h.1.1 h.1.2 h.1.3
 
 -- so the call breaks 11 on the line of the caller
-pub undeclared : Breaks (file_with (caller ∷ []) (caller ∷ [])) 11 20
-undeclared =
-    in_first (file_with (caller ∷ []) (caller ∷ [])) 11 caller [] refl
-    (inr (inl (refl, (codes "f", first_in (Call (codes "f")) (give 0 ∷ []), inl not_declared))))
+pub undeclared : Breaks (alone caller) 11 20
+undeclared = in_alone 11 caller refl (inr (inl (refl, inl (codes "f", in_same caller_calls (first_in (codes "f") []), inl not_declared))))
 
 -- `f` is an inline function behind its caller
 abbrev behind_file : CFile
@@ -121,17 +138,45 @@ not_yet_declared (inr (inr h)) =
 pub behind_its_caller : Breaks behind_file 11 20
 behind_its_caller =
     in_first behind_file 11 caller (inline_with (codes "f") Void [] ∷ []) refl
-    (inr (inl (refl, (codes "f", first_in (Call (codes "f")) (give 0 ∷ []), inl not_yet_declared))))
+    (inr (inl (refl, inl (codes "f", in_same caller_calls (first_in (codes "f") []), inl not_yet_declared))))
 
 -- `f` calls itself, but its parameter `f` hides it
 abbrev hiding : CFun
-hiding = record (function_with (codes "f") Void (Call (codes "f") ∷ [])) { params = word (codes "f") ∷ [] }
+hiding = record (function_with (codes "f") Void (bare_call (codes "f") ∷ [])) { params = word (codes "f") ∷ [] }
+
+-- its one call
+hiding_calls : called hiding ≡ codes "f" ∷ []
+hiding_calls = simp actions_are
 
 -- the call breaks 11 on its line
-pub hidden_by_parameter : Breaks (file_with (hiding ∷ []) (hiding ∷ [])) 11 20
-hidden_by_parameter =
-    in_first (file_with (hiding ∷ []) (hiding ∷ [])) 11 hiding [] refl
-    (inr (inl (refl, (codes "f", first_in (Call (codes "f")) [], inr (first_in (codes "f") [])))))
+pub hidden_by_parameter : Breaks (alone hiding) 11 20
+hidden_by_parameter = in_alone 11 hiding refl (inr (inl (refl, inl (codes "f", in_same hiding_calls (first_in (codes "f") []), inr (first_in (codes "f") [])))))
+
+-- `sl_main` with one action
+module _ (s : CStmt) (action : Action) (is : actions_in (s ∷ []) ≡ action ∷ []) where
+  -- which is among its actions
+  only_action : Contains (actions_in (s ∷ [])) action
+  only_action = in_same is (first_in action [])
+
+-- `return a;`
+abbrev reading : CStmt
+reading = Return (Some (named (codes "a")))
+
+-- a variable that is read isn't declared
+pub undeclared_read : Breaks (alone (start_with (reading ∷ []))) 11 20
+undeclared_read =
+    in_alone 11 (start_with (reading ∷ [])) refl
+    (inr (inl (refl, inr (Returns (Some (named (codes "a"))), codes "a", only_action reading (Returns (Some (named (codes "a")))) (simp actions_are), (named (codes "a"), refl, in_same {ys = Reads (Name (codes "a")) ∷ []} (simp leaves_are) (first_in (Reads (Name (codes "a"))) [])), refl))))
+
+-- `a = INT64_C(0);`
+abbrev writing : CStmt
+writing = set (codes "a") (signed 0)
+
+-- nor is one that is written
+pub undeclared_write : Breaks (alone (start_with (writing ∷ []))) 11 20
+undeclared_write =
+    in_alone 11 (start_with (writing ∷ [])) refl
+    (inr (inl (refl, inr (Assigns (Name (codes "a")) (signed 0), codes "a", only_action writing (Assigns (Name (codes "a")) (signed 0)) (simp actions_are), inl refl, refl))))
 
 -- 13 -----------------------------------------------------------------------------------------------------------------
 
@@ -167,65 +212,165 @@ wide = record { name = codes "s"; members = member_of (codes "a") (Some (2 ^ 21)
 pub large_struct : Breaks (struct_alone wide) 13 7
 large_struct = outside (struct_alone wide) 13 (inr (inl (refl, (wide, first_in wide [], inl (omega arith)))))
 
+-- 14 -----------------------------------------------------------------------------------------------------------------
+
+-- `sl_main` returns the value of an expression
+abbrev giving : CExpr → CFun
+giving e = start_with (Return (Some e) ∷ [])
+
+-- whose operands don't fit
+misfit : (e : CExpr) → ((scope : Scope) → (typed scope e).fits ≡ false) → Breaks (alone (giving e)) 14 20
+misfit e not =
+    in_alone 14 (giving e) refl
+    (inr (inr (inl (refl, (Returns (Some e), e, only_action (Return (Some e)) (Returns (Some e)) (simp actions_are), refl, not (scope_of (alone (giving e)) (giving e)))))))
+
+-- a sum of numbers of two types
+pub operands_mixed : Breaks (alone (giving (Binary Add (signed 1) (unsigned 1)))) 14 20
+operands_mixed = misfit (Binary Add (signed 1) (unsigned 1)) (λ scope. simp types_are)
+
+-- a number without a sign that is negated
+pub unsigned_negated : Breaks (alone (giving (Negate (unsigned 1)))) 14 20
+unsigned_negated = misfit (Negate (unsigned 1)) (λ scope. simp types_are)
+
 -- 15 -----------------------------------------------------------------------------------------------------------------
 
 -- `sl_main` returns no value
-pub missing_value : Breaks (start_alone (Return None ∷ [])) 15 20
+pub missing_value : Breaks (alone (start_with (Return None ∷ []))) 15 20
 missing_value =
-    in_first (start_alone (Return None ∷ [])) 15 (start_with (Return None ∷ [])) [] refl
-    (inr (inr (inl (refl, (Return None, first_in (Return None) [], λ same. cc)))))
+    in_alone 15 (start_with (Return None ∷ [])) refl
+    (inr (inr (inr (inl (refl, (Returns None, only_action (Return None) (Returns None) (simp actions_are), λ same. cc))))))
 
 -- a function without a result returns a value
-pub needless_value : Breaks (file_with [] (function_with (codes "f") Void (give 0 ∷ []) ∷ [])) 15 20
+pub needless_value : Breaks (alone (function_with (codes "f") Void (give 0 ∷ []))) 15 20
 needless_value =
-    in_first (file_with [] (function_with (codes "f") Void (give 0 ∷ []) ∷ [])) 15 (function_with (codes "f") Void (give 0 ∷ [])) [] refl
-    (inr (inr (inl (refl, (give 0, first_in (give 0) [], λ same. cc)))))
+    in_alone 15 (function_with (codes "f") Void (give 0 ∷ [])) refl
+    (inr (inr (inr (inl (refl, (Returns (Some (signed 0)), only_action (give 0) (Returns (Some (signed 0))) (simp actions_are), (Int true 64, simp types_are, λ same. cc)))))))
 
 -- `sl_put(UINT64_C(65));`
 abbrev put_unsigned : CStmt
-put_unsigned = Put (Const false 65)
+put_unsigned = Put (unsigned 65)
 
 -- breaks 15 on the line of the function
-pub unsigned_put : Breaks (start_alone (put_unsigned ∷ give 0 ∷ [])) 15 20
+pub unsigned_put : Breaks (alone (start_with (put_unsigned ∷ []))) 15 20
 unsigned_put =
-    in_first (start_alone (put_unsigned ∷ give 0 ∷ [])) 15 (start_with (put_unsigned ∷ give 0 ∷ [])) [] refl
-    (inr (inr (inl (refl, (put_unsigned, first_in put_unsigned (give 0 ∷ []), λ same. cc)))))
+    in_alone 15 (start_with (put_unsigned ∷ [])) refl
+    (inr (inr (inr (inl (refl, (Puts (unsigned 65), only_action put_unsigned (Puts (unsigned 65)) (simp actions_are), (Int false 64, simp types_are, λ same. cc)))))))
+
+-- `a = UINT64_C(65);`, where `a` has a sign
+abbrev mistyped : CFun
+mistyped = record (start_with (set (codes "a") (unsigned 65) ∷ [])) { vars = word (codes "a") ∷ [] }
+
+-- breaks 15 too
+pub unsigned_assigned : Breaks (alone mistyped) 15 20
+unsigned_assigned =
+    in_alone 15 mistyped refl
+    (inr (inr (inr (inl (
+      refl,
+      (
+        Assigns (Name (codes "a")) (unsigned 65),
+        only_action (set (codes "a") (unsigned 65)) (Assigns (Name (codes "a")) (unsigned 65)) (simp actions_are),
+        (Int true 64, refl, (Int false 64, simp types_are, λ same. cc)),
+      ),
+    )))))
 
 -- 16 -----------------------------------------------------------------------------------------------------------------
 
--- a function with a parameter calls itself without an argument
-abbrev with_parameter : CFun
-with_parameter = record (function_with (codes "f") Void (Call (codes "f") ∷ [])) { params = word (codes "a") ∷ [] }
+-- a function `f` with a parameter of 64 bits with a sign calls itself
+abbrev calling_itself : CStmt → CFun
+calling_itself call = record (function_with (codes "f") Void (call ∷ [])) { params = word (codes "a") ∷ [] }
 
--- breaks 16 on its line
-pub no_argument : Breaks (file_with (with_parameter ∷ []) (with_parameter ∷ [])) 16 20
+-- without an argument it breaks 16 on its line
+pub no_argument : Breaks (alone (calling_itself (bare_call (codes "f")))) 16 20
 no_argument =
-    in_first (file_with (with_parameter ∷ []) (with_parameter ∷ [])) 16 with_parameter [] refl
-    (inr (inr (inr (inl (refl, (with_parameter, first_in with_parameter [], first_in (Call (codes "f")) [], λ same. cc))))))
+    let itself : CFun = calling_itself (bare_call (codes "f")) in
+    in_alone 16 itself refl
+    (inr (inr (inr (inr (inl (refl, (itself, None, [], (first_in itself [], only_action (bare_call (codes "f")) (Calls None (codes "f") []) (simp actions_are)), tt)))))))
+
+-- `f(UINT64_C(1));`
+abbrev unsigned_call : CStmt
+unsigned_call = Call None (codes "f") (Value (unsigned 1) ∷ [])
+
+-- with one of another type it breaks it too
+pub other_argument : Breaks (alone (calling_itself unsigned_call)) 16 20
+other_argument =
+    let itself : CFun = calling_itself unsigned_call in
+    in_alone 16 itself refl
+    (inr (inr (inr (inr (inl (refl, (itself, None, unsigned 1 ∷ [], (first_in itself [], only_action unsigned_call (Calls None (codes "f") (unsigned 1 ∷ [])) (simp actions_are)), inl (Int false 64, simp types_are, λ same. cc))))))))
+
+-- 17 -----------------------------------------------------------------------------------------------------------------
+
+-- `a = f();`
+abbrev taking : CStmt
+taking = Call (Some (Name (codes "a"))) (codes "f") []
+
+-- a function `f` with this result and a variable `a` of 64 bits with a sign calls itself, and takes its result
+abbrev taking_own : CType → CFun
+taking_own result = record (function_with (codes "f") result (taking ∷ [])) { vars = word (codes "a") ∷ [] }
+
+-- where there is none, it breaks 17 on its line
+pub void_taken : Breaks (alone (taking_own Void)) 17 20
+void_taken =
+    let itself : CFun = taking_own Void in
+    in_alone 17 itself refl
+    (inr (inr (inr (inr (inr (inl (refl, (itself, Name (codes "a"), [], (first_in itself [], only_action taking (Calls (Some (Name (codes "a"))) (codes "f") []) (simp actions_are)), inl refl))))))))
+
+-- where it has another type, it does too
+pub other_taken : Breaks (alone (taking_own (Int false 64))) 17 20
+other_taken =
+    let itself : CFun = taking_own (Int false 64) in
+    in_alone 17 itself refl
+    (inr (inr (inr (inr (inr (inl (refl, (itself, Name (codes "a"), [], (first_in itself [], only_action taking (Calls (Some (Name (codes "a"))) (codes "f") []) (simp actions_are)), inr (Int true 64, refl, λ same. cc)))))))))
+
+-- 18 -----------------------------------------------------------------------------------------------------------------
+
+-- `if (a) {}`
+abbrev testing : CStmt
+testing = If (named (codes "a")) [] None
+
+-- where `a` has 8 bits
+abbrev testing_byte : CFun
+testing_byte = record (start_with (testing ∷ [])) { vars = record { name = codes "a"; kind = Int false 8 } ∷ [] }
+
+-- breaks 18 on the line of the function
+pub byte_tested : Breaks (alone testing_byte) 18 20
+byte_tested =
+    in_alone 18 testing_byte refl
+    (inr (inr (inr (inr (inr (inr (inl (refl, (named (codes "a"), Int false 8, only_action testing (Tests (named (codes "a"))) (simp actions_are), simp types_are, refl)))))))))
 
 -- 19 -----------------------------------------------------------------------------------------------------------------
 
 -- an inline function that calls itself
 abbrev inline_self : CFun
-inline_self = inline_with (codes "f") Void (Call (codes "f") ∷ [])
+inline_self = inline_with (codes "f") Void (bare_call (codes "f") ∷ [])
+
+-- its one call
+inline_self_calls : called inline_self ≡ codes "f" ∷ []
+inline_self_calls = simp actions_are
 
 -- breaks 19 on its line
-pub inline_calls_itself : Breaks (file_with [] (inline_self ∷ [])) 19 20
+pub inline_calls_itself : Breaks (alone inline_self) 19 20
 inline_calls_itself =
-    in_first (file_with [] (inline_self ∷ [])) 19 inline_self [] refl
-    (inr (inr (inr (inr (inl (refl, (refl, (codes "f", first_in (Call (codes "f")) [], λ callee stands inline named. before_one inline_self inline_self callee stands.0 stands.1 stands.2 stands.3))))))))
+    in_alone 19 inline_self refl
+    (inr (inr (inr (inr (inr (inr (inr (inl (
+      refl,
+      (refl, (codes "f", in_same inline_self_calls (first_in (codes "f") []), λ callee stands inline named. before_one inline_self inline_self callee stands.0 stands.1 stands.2 stands.3)),
+    )))))))))
 
 -- an inline function that calls one before it that isn't inline
-abbrev called : CFun
-called = function_with (codes "g") Void []
+abbrev earlier : CFun
+earlier = function_with (codes "g") Void []
 
 -- the one that calls it, on line 30
 abbrev inline_caller : CFun
-inline_caller = record (inline_with (codes "f") Void (Call (codes "g") ∷ [])) { line = 30 }
+inline_caller = record (inline_with (codes "f") Void (bare_call (codes "g") ∷ [])) { line = 30 }
+
+-- its one call
+inline_caller_calls : called inline_caller ≡ codes "g" ∷ []
+inline_caller_calls = simp actions_are
 
 -- both, in this order
 abbrev inline_file : CFile
-inline_file = file_with (called ∷ []) (called ∷ inline_caller ∷ [])
+inline_file = file_with (earlier ∷ []) (earlier ∷ inline_caller ∷ [])
 
 -- break 19 on the line of the caller
 pub inline_calls_other : Breaks inline_file 19 30
@@ -233,31 +378,35 @@ unfolding Breaks
 inline_calls_other =
     inr (
       inline_caller,
-      second_in called inline_caller [],
+      second_in earlier inline_caller [],
       refl,
-      inr (inr (inr (inr (inl (
+      inr (inr (inr (inr (inr (inr (inr (inl (
         refl,
         (
           refl,
           (
             codes "g",
-            first_in (Call (codes "g")) [],
+            in_same inline_caller_calls (first_in (codes "g") []),
             λ callee stands inline named.
-                let same : called.inline ≡ callee.inline = ap (λ function. function.inline) (before_two called inline_caller inline_caller callee stands.0 stands.1 stands.2 stands.3) in cc,
+                let same : earlier.inline ≡ callee.inline = ap (λ function. function.inline) (before_two earlier inline_caller inline_caller callee stands.0 stands.1 stands.2 stands.3) in cc,
           ),
         ),
-      ))))),
+      )))))))),
     )
 
 -- 21 -----------------------------------------------------------------------------------------------------------------
 
--- no statements don't end by a return
-none_ends : ¬ EndsByReturn []
-none_ends ends = not_empty (Return ends.1) ends.0 [] ends.2
-
 -- `sl_main` has no statement
-pub no_return : Breaks (start_alone []) 21 20
-no_return = in_first (start_alone []) 21 (start_with []) [] refl (inr (inr (inr (inr (inr (refl, ((λ same. cc), none_ends)))))))
+pub no_return : Breaks (alone (start_with [])) 21 20
+no_return = in_alone 21 (start_with []) refl (inr (inr (inr (inr (inr (inr (inr (inr (refl, (λ same. cc, refl))))))))))
+
+-- `if (INT64_C(1)) { return INT64_C(0); }`
+abbrev sometimes : CStmt
+sometimes = If (signed 1) (give 0 ∷ []) None
+
+-- it ends with an `if` without `else`
+pub return_in_if : Breaks (alone (start_with (sometimes ∷ []))) 21 20
+return_in_if = in_alone 21 (start_with (sometimes ∷ [])) refl (inr (inr (inr (inr (inr (inr (inr (inr (refl, (λ same. cc, simp ends_are))))))))))
 
 -- 22 -----------------------------------------------------------------------------------------------------------------
 
@@ -328,6 +477,7 @@ two_prototypes =
 abbrev with_param : List ℕ → CFun
 with_param name = record (function_with (codes "f") Void []) { params = word name ∷ [] }
 
+-- and its file
 abbrev param_file : CFile
 param_file = file_with (with_param (codes "a") ∷ []) (with_param (codes "b") ∷ [])
 
@@ -375,61 +525,3 @@ start_with_parameter = record (start_with []) { params = word (codes "a") ∷ []
 -- breaks 22 too
 pub parameter_start : Breaks (file_with (start_with_parameter ∷ []) (start_with_parameter ∷ [])) 22 7
 parameter_start = no_start_among start_with_parameter (λ is. let same : word (codes "a") ∷ [] ≡ [] = is.params in cc)
-
--- No rule is broken --------------------------------------------------------------------------------------------------
-
--- `sl_main` with `return INT64_C(0);`, and its prototype
-abbrev start : CFun
-start = start_with (give 0 ∷ [])
-
--- the file of both
-abbrev least : CFile
-least = start_alone (give 0 ∷ [])
-
--- whether a word is the name of the function with which a run begins
-abbrev is_start : List ℕ → Bool
-is_start word = bytes_eq word (codes "sl_main")
-
--- which is no reserved one
-start_is_free : ¬ Contains reserved_words (codes "sl_main")
-start_is_free among = let some = list_any_at is_start reserved_words among.0 (codes "sl_main") among.1 (ap is_start among.2 ∙ refl) in cc
-
--- no names don't clash
-none_clash : ¬ NamesClash []
-unfolding IsDistinct
-none_clash (inl apart) = apart tt
-none_clash (inr taken) = in_none taken.0 taken.1
-
--- one name that isn't reserved doesn't clash
-one_is_apart : (name : List ℕ) → ¬ Contains reserved_words name → ¬ NamesClash (name ∷ [])
-unfolding IsDistinct
-one_is_apart name free (inl apart) = apart (tt, tt)
-one_is_apart name free (inr taken) = of_one (λ other. ¬ Contains reserved_words other) name taken.0 free taken.1 taken.2
-
--- nothing is broken outside functions
-least_outside : (rule : ℕ) → ¬ BreaksOutside least rule
-least_outside rule (inl (is, inl clash)) = none_clash clash
-least_outside rule (inl (is, inr (inl clash))) = one_is_apart (codes "sl_main") start_is_free clash
-least_outside rule (inl (is, inr (inr (inl h)))) = in_none h.0 h.1
-least_outside rule (inl (is, inr (inr (inr h)))) = in_none h.0 h.2
-least_outside rule (inr (inl (is, h))) = in_none h.0 h.1
-least_outside rule (inr (inr (is, inl h))) = h.3 (of_one (λ function. count_by (λ proto. bytes_eq proto.name function.name) least.protos ≡ 1) start h.0 refl h.1)
-least_outside rule (inr (inr (is, inr (inl h)))) =
-    of_one (λ proto. ¬ ((function : CFun) → Contains least.functions function → function.inline ≡ false → ¬ AreAlike proto function)) (proto_of start) h.0
-    (λ alone. alone start (first_in start []) refl (record { name = refl; result = refl; params = refl })) h.1 h.2
-least_outside rule (inr (inr (is, inr (inr none)))) = none start (first_in start []) (record { name = refl; called = refl; result = refl; params = refl })
-
--- nothing is broken in `sl_main`
-least_inside : (rule : ℕ) → ¬ BreaksInside least start rule
-least_inside rule (inl (is, clash)) = none_clash clash
-least_inside rule (inr (inl (is, h))) = of_one (λ stmt. stmt ≢ Call h.0) (give 0) (Call h.0) (λ same. cc) h.1 refl
-least_inside rule (inr (inr (inl (is, h)))) = of_one (λ stmt. ¬ HasWrongValue start stmt) (give 0) h.0 (λ wrong. wrong refl) h.1 h.2
-least_inside rule (inr (inr (inr (inl (is, h))))) = of_one (λ stmt. stmt ≢ Call h.0.name) (give 0) (Call h.0.name) (λ same. cc) h.2 refl
-least_inside rule (inr (inr (inr (inr (inl (is, h)))))) = let inline : false ≡ true = h.0 in cc
-least_inside rule (inr (inr (inr (inr (inr (is, h)))))) = h.1 ([], Some (Const true 0), refl)
-
--- so no rule is broken
-pub least_keeps_rules : KeepsRules least
-unfolding Breaks
-least_keeps_rules rule line (inl h) = least_outside rule h.1
-least_keeps_rules rule line (inr h) = of_one (λ function. ¬ BreaksInside least function rule) start h.0 (least_inside rule) h.1 h.3

@@ -1,13 +1,32 @@
 -- Which bytes are the text of some tokens, by examples.
-use Rattle.std.proofs.Common.{◌≡◌, ◌≢◌, ℕ, ◌+◌, List, [], ◌∷◌, ◌++◌, Bool, true, false, Some, refl, ap, ◌∙◌, inl, inr, arith, append_assoc, codes}
-use Rattle.std.specs.Prelude.{◌==◌}
-use Rattle.std.specs.List.{list_any}
-use Rattle.std.proofs.lemmas.List.Elements.{All-nil, All-cons, All-head, All-contains, All-from_recursion, Contains-append_right}
-use Rattle.std.proofs.lemmas.List.Folds.{list_any_at}
-use Rattle.c_tree.specs.Words.{IsIdentifierByte, IsDigit, IsIdentifier, IsToken, marks}
-use Rattle.c_tree.specs.Flat.{lexeme}
-use Rattle.c_tree.specs.Text.{prelude, first_line, IsComment, IsBlank, line_feeds, IsLongest, Spelled}
+use Rattle.std.proofs.Common.{◌≡◌, ◌≢◌, ◌⊎◌, ℕ, ◌+◌, ◌≤◌, List, [], ◌∷◌, ◌++◌, Bool, true, false, Some, None, refl, sym, subst, ap, ◌∙◌, inl, inr, arith, append_assoc, map, All, Contains, codes, bytes_eq}
+use Rattle.std.specs.Prelude.{◌==◌, not, ◌&&◌, ◌||◌}
+use Rattle.std.specs.Bool.{Decides}
+use Rattle.std.specs.Char.{is_ascii_alphanumeric, is_ascii_digit}
+use Rattle.std.specs.Fmt.{digits}
+use Rattle.std.specs.List.{list_any, list_all}
+use Rattle.std.proofs.lemmas.Bool.{and_parts}
+use Rattle.std.proofs.lemmas.Bool.Decides.{Decides-eqb, Decides-or, Decides-by_and}
+use Rattle.std.proofs.lemmas.List.Elements.{All-nil, All-cons, All-head, All-contains, Contains-append_right}
+use Rattle.std.proofs.lemmas.List.Folds.{list_any_at, Any-from_list_any}
+use Rattle.std.proofs.lemmas.Slice.Eq.{bytes_eq-Decides}
+use Rattle.c_tree.specs.declared.tree.CArg.TheVariants.{Value}
+use Rattle.c_tree.specs.declared.tree.CFile.{CFile}
+use Rattle.c_tree.specs.declared.tree.CFun.{CFun}
+use Rattle.c_tree.specs.declared.tree.CStmt.{CStmt}
+use Rattle.c_tree.specs.declared.tree.CStmt.TheVariants.{Call, If}
+use Rattle.c_tree.specs.declared.tree.CExpr.{CExpr}
+use Rattle.c_tree.specs.declared.tree.CExpr.TheVariants.{Negate}
+use Rattle.c_tree.specs.declared.tree.CType.TheVariants.{Void}
+use Rattle.c_tree.specs.Words.{IsIdentifierByte, IsDigit, IsIdentifier, IsNumber, IsToken, IsName, marks, subset_words}
+use Rattle.c_tree.specs.Parts.{Constant, leaves, Tests, Calls, actions}
+use Rattle.c_tree.specs.Flat.{lexeme, lexemes, cflat}
+use Rattle.c_tree.specs.WellFormed.{IsLeaf, IsExpr, IsAction, IsStmt, IsFunction, IsWellFormed, stmt_depth}
+use Rattle.c_tree.specs.Text.{prelude, postlude, first_line, IsComment, IsBlank, line_feeds, IsLongest, Spelled, CText}
+use Rattle.c_tree.proofs.Variants.{leaves_are, actions_are, flat_expressions_are, flat_statements_are, expression_depths_are, statement_depths_are}
+use Rattle.c_tree.proofs.Forms.{constant_fits}
 use Rattle.c_tree.proofs.Lists.{first_in, not_empty}
+use Rattle.c_tree.proofs.Small.{signed, function_with}
 
 -- the tokens behind the prelude begin on the line that follows its line feeds
 pub prelude_has_six_lines : first_line ≡ line_feeds prelude + 1
@@ -52,69 +71,319 @@ ended_twice comment = comment.2 [] [] (inside_twice comment.0 (let same : codes 
 
 -- Words --------------------------------------------------------------------------------------------------------------
 
--- whether a spelling begins with this letter
-abbrev begins_with : ℕ → List ℕ → Bool
-begins_with letter [] = false
-begins_with letter (byte ∷ bytes) = byte == letter
+-- whether a byte stands in words
+abbrev in_word : ℕ → Bool
+in_word byte = is_ascii_alphanumeric byte || byte == 95
 
--- a word whose letter begins no mark, before a byte that stands in no identifier, is the longest token there
-module _ (letter next : ℕ) (letters behind : List ℕ) (word : IsIdentifier (letter ∷ letters)) (unmarked : list_any (begins_with letter) marks ≡ false) (same : (letter == letter) ≡ true) (ends : ¬ IsIdentifierByte next) where
-  -- no longer token begins there
-  no_longer : (more rest : List ℕ) → next ∷ behind ≡ more ++ rest → more ≢ [] → ¬ IsToken (letter ∷ (letters ++ more))
-  no_longer [] rest these some token = some refl
-  no_longer (m ∷ more) rest these some (inl is) =
-      let first : next ≡ m = cc in
-      ends (rw first (All-contains IsIdentifierByte (letter ∷ (letters ++ m ∷ more)) m is.bytes (Contains-append_right (letter ∷ letters) (m ∷ more) m (first_in m more))))
-  no_longer (m ∷ more) rest these some (inr (inl is)) = word.begins (All-head IsDigit letter (letters ++ m ∷ more) is.digits)
-  no_longer (m ∷ more) rest these some (inr (inr is)) =
-      let passes = list_any_at (begins_with letter) marks is.0 (letter ∷ (letters ++ m ∷ more)) is.1 (ap (begins_with letter) is.2 ∙ same) in cc
+-- the test says so
+in_word_decides : (byte : ℕ) → Decides (in_word byte) (IsIdentifierByte byte)
+in_word_decides byte = Decides-or (is_ascii_alphanumeric byte) (byte == 95) ((λ is. is), (λ is. is)) (Decides-eqb byte 95)
 
-  -- nor a comment, where the letter is no `/`
-  word_is_longest : letter ≢ 47 → IsLongest (letter ∷ letters) (next ∷ behind)
-  word_is_longest other = record { token = inl word; longest = no_longer; no_comment = λ rest same. other (let slash : letter ≡ 47 = cc in slash) }
+-- whether a spelling is an identifier
+abbrev is_word : List ℕ → Bool
+is_word [] = false
+is_word (byte ∷ bytes) = not (is_ascii_digit byte) && list_all in_word (byte ∷ bytes)
+
+-- where the test passes, it is one
+word_is : (spelling : List ℕ) → is_word spelling ≡ true → IsIdentifier spelling
+word_is [] passes = cc
+word_is (byte ∷ bytes) passes =
+    let parts = and_parts (not (is_ascii_digit byte)) (list_all in_word (byte ∷ bytes)) passes in
+    record {
+      bytes = (Decides-by_and in_word IsIdentifierByte (list_all in_word) in_word_decides refl (λ _ _. refl) (byte ∷ bytes)).0 parts.1;
+      begins = λ digit. let same : false ≡ true = sym (ap not digit) ∙ parts.0 in cc;
+    }
+
+-- whether a spelling is a number
+abbrev is_number : List ℕ → Bool
+is_number [] = false
+is_number (byte ∷ bytes) = list_all is_ascii_digit (byte ∷ bytes)
+
+-- where the test passes, it is one
+number_is : (spelling : List ℕ) → is_number spelling ≡ true → IsNumber spelling
+number_is [] passes = cc
+number_is (byte ∷ bytes) passes = record {
+  digits = (Decides-by_and is_ascii_digit IsDigit (list_all is_ascii_digit) (λ _. ((λ is. is), (λ is. is))) refl (λ _ _. refl) (byte ∷ bytes)).0 passes;
+  some = λ none. cc;
+}
+
+-- whether a spelling begins with a byte of words
+abbrev begins_in_word : List ℕ → Bool
+begins_in_word [] = false
+begins_in_word (byte ∷ bytes) = in_word byte
+
+-- whether no word and no number goes on with these bytes
+abbrev ends_words : List ℕ → Bool
+ends_words [] = true
+ends_words (byte ∷ bytes) = not (in_word byte) && not (is_ascii_digit byte)
+
+-- a test that fails doesn't pass
+fails : (test : Bool) → not test ≡ true → test ≢ true
+fails test not_so so = let same : false ≡ true = sym (ap not so) ∙ not_so in cc
+
+-- no longer token begins with a word or a number that ends there
+no_longer_word : (byte : ℕ) (bytes behind : List ℕ) → in_word byte ≡ true → ends_words behind ≡ true → (more rest : List ℕ) → behind ≡ more ++ rest → more ≢ [] → ¬ IsToken (byte ∷ (bytes ++ more))
+no_longer_word byte bytes behind starts ends [] rest these some token = some refl
+no_longer_word byte bytes behind starts ends (next ∷ more) rest these some token =
+    let parts = and_parts (not (in_word next)) (not (is_ascii_digit next)) (sym (ap ends_words these) ∙ ends) in
+    let among : Contains (byte ∷ (bytes ++ next ∷ more)) next = Contains-append_right (byte ∷ bytes) (next ∷ more) next (first_in next more) in
+    go parts.0 parts.1 among token
+  where
+    -- whatever it is
+    go : not (in_word next) ≡ true → not (is_ascii_digit next) ≡ true → Contains (byte ∷ (bytes ++ next ∷ more)) next → ¬ IsToken (byte ∷ (bytes ++ next ∷ more))
+    go no_letter no_digit among (inl is) = fails (in_word next) no_letter ((in_word_decides next).1 (All-contains IsIdentifierByte (byte ∷ (bytes ++ next ∷ more)) next is.bytes among))
+    go no_letter no_digit among (inr (inl is)) = fails (is_ascii_digit next) no_digit (All-contains IsDigit (byte ∷ (bytes ++ next ∷ more)) next is.digits among)
+    go no_letter no_digit among (inr (inr is)) =
+        let passes : list_any begins_in_word marks ≡ true = list_any_at begins_in_word marks is.0 (byte ∷ (bytes ++ next ∷ more)) is.1 (ap begins_in_word is.2 ∙ starts) in cc
+
+-- a word or a number that ends there is the longest token
+word_is_longest : (byte : ℕ) (bytes behind : List ℕ) → IsToken (byte ∷ bytes) → in_word byte ≡ true → ends_words behind ≡ true → IsLongest (byte ∷ bytes) behind
+word_is_longest byte bytes behind token starts ends = record {
+  token = token;
+  longest = no_longer_word byte bytes behind starts ends;
+  no_comment = λ rest same. let slash : byte ≡ 47 = cc in let passes : in_word 47 ≡ true = sym (ap in_word slash) ∙ starts in cc;
+}
+
+-- Marks --------------------------------------------------------------------------------------------------------------
+
+-- whether a spelling begins with this byte, and goes on
+abbrev is_longer : ℕ → List ℕ → Bool
+is_longer mark [] = false
+is_longer mark (byte ∷ []) = false
+is_longer mark (byte ∷ next ∷ bytes) = byte == mark
+
+-- whether a mark begins no word, no number, no longer mark and no comment
+abbrev begins_nothing : ℕ → Bool
+begins_nothing mark = (not (in_word mark) && not (is_ascii_digit mark)) && (not (list_any (is_longer mark) marks) && not (mark == 47))
+
+-- whether a spelling is such a mark
+abbrev is_lone_mark : List ℕ → Bool
+is_lone_mark [] = false
+is_lone_mark (mark ∷ []) = list_any (bytes_eq (mark ∷ [])) marks && begins_nothing mark
+is_lone_mark (mark ∷ next ∷ bytes) = false
+
+-- a mark that is in the list is one
+mark_is : (spelling : List ℕ) → list_any (bytes_eq spelling) marks ≡ true → Contains marks spelling
+mark_is spelling passes =
+    let any = Any-from_list_any (bytes_eq spelling) marks passes in
+    subst (Contains marks) (sym ((bytes_eq-Decides spelling any.1).0 any.4)) (any.0, any.2, any.3)
+
+-- no longer token begins with such a mark
+no_longer_mark : (mark : ℕ) (behind : List ℕ) → begins_nothing mark ≡ true → (more rest : List ℕ) → behind ≡ more ++ rest → more ≢ [] → ¬ IsToken (mark ∷ more)
+no_longer_mark mark behind nothing [] rest these some token = some refl
+no_longer_mark mark behind nothing (next ∷ more) rest these some (inl is) =
+    let parts = and_parts (not (in_word mark) && not (is_ascii_digit mark)) (not (list_any (is_longer mark) marks) && not (mark == 47)) nothing in
+    let alone = and_parts (not (in_word mark)) (not (is_ascii_digit mark)) parts.0 in
+    fails (in_word mark) alone.0 ((in_word_decides mark).1 (All-head IsIdentifierByte mark (next ∷ more) is.bytes))
+no_longer_mark mark behind nothing (next ∷ more) rest these some (inr (inl is)) =
+    let parts = and_parts (not (in_word mark) && not (is_ascii_digit mark)) (not (list_any (is_longer mark) marks) && not (mark == 47)) nothing in
+    let alone = and_parts (not (in_word mark)) (not (is_ascii_digit mark)) parts.0 in
+    fails (is_ascii_digit mark) alone.1 (All-head IsDigit mark (next ∷ more) is.digits)
+no_longer_mark mark behind nothing (next ∷ more) rest these some (inr (inr is)) =
+    let parts = and_parts (not (in_word mark) && not (is_ascii_digit mark)) (not (list_any (is_longer mark) marks) && not (mark == 47)) nothing in
+    let alone = and_parts (not (list_any (is_longer mark) marks)) (not (mark == 47)) parts.1 in
+    fails (list_any (is_longer mark) marks) alone.0 (list_any_at (is_longer mark) marks is.0 (mark ∷ next ∷ more) is.1 (ap (is_longer mark) is.2 ∙ (Decides-eqb mark mark).1 refl))
+
+-- so it is the longest token wherever it stands
+mark_is_longest : (mark : ℕ) (behind : List ℕ) → is_lone_mark (mark ∷ []) ≡ true → IsLongest (mark ∷ []) behind
+mark_is_longest mark behind lone =
+    let both = and_parts (list_any (bytes_eq (mark ∷ [])) marks) (begins_nothing mark) lone in
+    let parts = and_parts (not (in_word mark) && not (is_ascii_digit mark)) (not (list_any (is_longer mark) marks) && not (mark == 47)) both.1 in
+    let alone = and_parts (not (list_any (is_longer mark) marks)) (not (mark == 47)) parts.1 in
+    record {
+      token = inr (inr (mark_is (mark ∷ []) both.0));
+      longest = no_longer_mark mark behind both.1;
+      no_comment = λ rest same. fails (mark == 47) alone.1 ((Decides-eqb mark 47).1 (let slash : mark ≡ 47 = cc in slash));
+    }
+
+-- Texts --------------------------------------------------------------------------------------------------------------
+
+-- a token as it stands in a text, behind a space or not
+data Piece : Type 0 where
+  Glued : (spelling : List ℕ) → Piece
+  Spaced : (spelling : List ℕ) → Piece
+
+-- its spelling
+abbrev spelling_of : Piece → List ℕ
+spelling_of (Glued spelling) = spelling
+spelling_of (Spaced spelling) = spelling
+
+-- the bytes of some
+abbrev text_of : List Piece → List ℕ
+text_of [] = []
+text_of (Glued spelling ∷ pieces) = spelling ++ text_of pieces
+text_of (Spaced spelling ∷ pieces) = 32 ∷ (spelling ++ text_of pieces)
+
+-- whether a spelling is a token that ends where these bytes begin
+abbrev stands : List ℕ → List ℕ → Bool
+stands spelling behind = (ends_words behind && (is_word spelling || is_number spelling)) || is_lone_mark spelling
+
+-- whether each of some pieces does
+abbrev all_stand : List Piece → Bool
+all_stand [] = true
+all_stand (piece ∷ pieces) = stands (spelling_of piece) (text_of pieces) && all_stand pieces
+
+-- one of two tests passes
+one_passes : (a b : Bool) → (a || b) ≡ true → (a ≡ true) ⊎ (b ≡ true)
+one_passes true b passes = inl refl
+one_passes false b passes = inr passes
+
+-- a number begins with a byte of words
+digit_in_word : (byte : ℕ) → is_ascii_digit byte ≡ true → in_word byte ≡ true
+digit_in_word byte digit = rw digit refl
+
+-- it is the longest token there
+longest_of : (spelling behind : List ℕ) → stands spelling behind ≡ true → IsLongest spelling behind
+longest_of spelling behind so = by spelling (one_passes (ends_words behind && (is_word spelling || is_number spelling)) (is_lone_mark spelling) so)
+  where
+    -- as a word or a number
+    as_word : (spelling : List ℕ) → ends_words behind ≡ true → (is_word spelling ≡ true) ⊎ (is_number spelling ≡ true) → IsLongest spelling behind
+    as_word [] ends (inl word) = cc
+    as_word [] ends (inr number) = cc
+    as_word (byte ∷ bytes) ends (inl word) =
+        let parts = and_parts (not (is_ascii_digit byte)) (list_all in_word (byte ∷ bytes)) word in
+        let starts = and_parts (in_word byte) (list_all in_word bytes) parts.1 in
+        word_is_longest byte bytes behind (inl (word_is (byte ∷ bytes) word)) starts.0 ends
+    as_word (byte ∷ bytes) ends (inr number) =
+        let starts = and_parts (is_ascii_digit byte) (list_all is_ascii_digit bytes) number in
+        word_is_longest byte bytes behind (inr (inl (number_is (byte ∷ bytes) number))) (digit_in_word byte starts.0) ends
+
+    -- as the test that passes says
+    by : (spelling : List ℕ) → ((ends_words behind && (is_word spelling || is_number spelling)) ≡ true) ⊎ (is_lone_mark spelling ≡ true) → IsLongest spelling behind
+    by spelling (inl word) =
+        let parts = and_parts (ends_words behind) (is_word spelling || is_number spelling) word in
+        as_word spelling parts.0 (one_passes (is_word spelling) (is_number spelling) parts.1)
+    by [] (inr mark) = cc
+    by (mark ∷ []) (inr lone) = mark_is_longest mark behind lone
+    by (mark ∷ next ∷ bytes) (inr lone) = cc
+
+-- pieces that stand are a text of their tokens
+pieces_spelled : (line : ℕ) (pieces : List Piece) → all_stand pieces ≡ true → Spelled line (lexemes (map spelling_of pieces)) (text_of pieces)
+pieces_spelled line [] so = ([], All-nil IsBlank, refl)
+pieces_spelled line (Glued spelling ∷ pieces) so =
+    let parts = and_parts (stands spelling (text_of pieces)) (all_stand pieces) so in
+    let same : line ≡ line + 0 = omega arith in (
+      [],
+      text_of pieces,
+      ([], All-nil IsBlank, refl),
+      refl,
+      longest_of spelling (text_of pieces) parts.0,
+      tt,
+      subst (λ line. Spelled line (lexemes (map spelling_of pieces)) (text_of pieces)) same (pieces_spelled line pieces parts.1),
+    )
+pieces_spelled line (Spaced spelling ∷ pieces) so =
+    let parts = and_parts (stands spelling (text_of pieces)) (all_stand pieces) so in
+    let same : line ≡ line + 0 = omega arith in (
+      codes " ",
+      text_of pieces,
+      (codes " " ∷ [], All-cons IsBlank (codes " ") [] (inl refl) (All-nil IsBlank), refl),
+      refl,
+      longest_of spelling (text_of pieces) parts.0,
+      tt,
+      subst (λ line. Spelled line (lexemes (map spelling_of pieces)) (text_of pieces)) same (pieces_spelled line pieces parts.1),
+    )
+
+-- The text of a tree --------------------------------------------------------------------------------------------------
+
+-- the arguments `INT64_C(2)` and `(-INT64_C(3))`
+abbrev two_arguments : List CExpr
+two_arguments = signed 2 ∷ Negate (signed 3) ∷ []
+
+-- `if (INT64_C(1)) { f(INT64_C(2), (-INT64_C(3))); }`
+abbrev calling_if : CStmt
+calling_if = If (signed 1) (Call None (codes "f") (Value (signed 2) ∷ Value (Negate (signed 3)) ∷ []) ∷ []) None
+
+-- a function `g` with it, on line 7
+abbrev written : CFun
+written = record (function_with (codes "g") Void (calling_if ∷ [])) { line = 7 }
+
+-- a file of this function
+abbrev written_file : CFile
+written_file = record { structs = []; globals = []; protos = []; functions = written ∷ [] }
+
+-- its tokens behind the first, as they stand
+abbrev pieces : List Piece
+pieces =
+    Spaced (codes "void") ∷ Spaced (codes "g") ∷ Glued (codes "(") ∷ Glued (codes "void") ∷ Glued (codes ")") ∷ Spaced (codes "{")
+    ∷ Spaced (codes "if") ∷ Spaced (codes "(") ∷ Glued (codes "INT64_C") ∷ Glued (codes "(") ∷ Glued (codes "1") ∷ Glued (codes ")") ∷ Glued (codes ")") ∷ Spaced (codes "{")
+    ∷ Spaced (codes "f") ∷ Glued (codes "(") ∷ Glued (codes "INT64_C") ∷ Glued (codes "(") ∷ Glued (codes "2") ∷ Glued (codes ")") ∷ Glued (codes ",")
+    ∷ Spaced (codes "(") ∷ Glued (codes "-") ∷ Glued (codes "INT64_C") ∷ Glued (codes "(") ∷ Glued (codes "3") ∷ Glued (codes ")") ∷ Glued (codes ")")
+    ∷ Glued (codes ")") ∷ Glued (codes ";") ∷ Spaced (codes "}") ∷ Spaced (codes "}")
+    ∷ []
+
+-- they are the tree's
+tokens_of_written : cflat written_file ≡ record { spelling = codes "static"; line = Some 7 } ∷ lexemes (map spelling_of pieces)
+unfolding cflat digits
+tokens_of_written = simp (flat_statements_are, flat_expressions_are)
+
+-- a word that has no meaning of its own is a name
+name_is : (name : List ℕ) → is_word name ≡ true → list_any (bytes_eq name) subset_words ≡ false → bytes_eq name name ≡ true → IsName name
+name_is name word none same = record {
+  identifier = word_is name word;
+  free = λ among. let some : list_any (bytes_eq name) subset_words ≡ true = list_any_at (bytes_eq name) subset_words among.0 name among.1 (ap (bytes_eq name) among.2 ∙ same) in cc;
+}
+
+-- the two arguments have numbers of 64 bits
+arguments_are : All IsExpr two_arguments
+arguments_are =
+    All-cons IsExpr (signed 2) (Negate (signed 3) ∷ []) (constant_fits true 2 (omega arith))
+    (All-cons IsExpr (Negate (signed 3)) [] (subst (All IsLeaf) (sym negated_leaves) (All-cons IsLeaf (Constant true 3) [] (omega arith) (All-nil IsLeaf))) (All-nil IsExpr))
+  where
+    -- the second has one
+    negated_leaves : leaves (Negate (signed 3)) ≡ Constant true 3 ∷ []
+    negated_leaves = simp leaves_are
+
+-- the statement is one that a text can have
+statement_is : IsStmt calling_if
+statement_is =
+    subst (All IsAction) (sym its_actions)
+    (All-cons IsAction (Tests (signed 1)) (Calls None (codes "f") two_arguments ∷ []) (constant_fits true 1 (omega arith))
+    (All-cons IsAction (Calls None (codes "f") two_arguments) [] (tt, name_is (codes "f") refl refl refl, arguments_are) (All-nil IsAction)))
+  where
+    -- its actions
+    its_actions : actions calling_if ≡ Tests (signed 1) ∷ Calls None (codes "f") two_arguments ∷ []
+    its_actions = simp actions_are
+
+-- and so is the tree
+written_is : IsWellFormed written_file
+written_is =
+    let depth : stmt_depth calling_if ≡ 4 = simp (statement_depths_are, expression_depths_are) in
+    record {
+      structs = All-nil _;
+      globals = All-nil _;
+      protos = All-nil _;
+      functions =
+          All-cons IsFunction written []
+          (record {
+            head = record { name = name_is (codes "g") refl refl refl; result = inr refl; params = All-nil _ };
+            vars = All-nil _;
+            body = All-cons IsStmt calling_if [] statement_is (All-nil IsStmt);
+          })
+          (All-nil IsFunction);
+      nesting =
+          All-cons (λ function. All (λ stmt. stmt_depth stmt ≤ 1024) function.body) written [] (All-cons (λ stmt. stmt_depth stmt ≤ 1024) calling_if [] (omega arith) (All-nil _)) (All-nil _);
+    }
+
+-- so these bytes, between the first lines and the last one, are the text of the tree
+pub text_of_tree : CText (prelude ++ codes "static void g(void) { if (INT64_C(1)) { f(INT64_C(2), (-INT64_C(3))); } }" ++ postlude) written_file
+text_of_tree = record {
+  well_formed = written_is;
+  middle = codes "static" ++ text_of pieces;
+  whole = refl;
+  spelled =
+      subst (λ tokens. Spelled 7 tokens (codes "static" ++ text_of pieces)) (sym tokens_of_written)
+      ([], text_of pieces, ([], All-nil IsBlank, refl), refl, longest_of (codes "static") (text_of pieces) refl, refl, pieces_spelled 7 pieces refl);
+}
+
+-- Lines and other tokens ---------------------------------------------------------------------------------------------
 
 -- `_` is an identifier
 pub line_is : IsIdentifier (codes "_")
-line_is = record { bytes = All-from_recursion IsIdentifierByte (codes "_") (inr refl, tt); begins = λ digit. cc }
+line_is = word_is (codes "_") refl
 
 -- and `1` is none
 pub one_is_none : ¬ IsIdentifier (codes "1")
 one_is_none is = is.begins refl
-
--- `static` is an identifier
-static_is : IsIdentifier (codes "static")
-static_is = record { bytes = All-from_recursion IsIdentifierByte (codes "static") (inl refl, (inl refl, (inl refl, (inl refl, (inl refl, (inl refl, tt)))))); begins = λ digit. cc }
-
--- and so is `x`
-x_is : IsIdentifier (codes "x")
-x_is = record { bytes = All-from_recursion IsIdentifierByte (codes "x") (inl refl, tt); begins = λ digit. cc }
-
--- and so is `staticx`
-staticx_is : IsIdentifier (codes "staticx")
-staticx_is = record { bytes = All-from_recursion IsIdentifierByte (codes "staticx") (inl refl, (inl refl, (inl refl, (inl refl, (inl refl, (inl refl, (inl refl, tt))))))); begins = λ digit. cc }
-
--- a line feed stands in no identifier
-feed_ends : ¬ IsIdentifierByte 10
-feed_ends (inl letter) = cc
-feed_ends (inr line) = absurd (omega arith)
-
--- nor does `;`
-semicolon_ends : ¬ IsIdentifierByte 59
-semicolon_ends (inl letter) = cc
-semicolon_ends (inr line) = absurd (omega arith)
-
--- where nothing is left, there is no more
-none_more : (more rest : List ℕ) → [] ≡ more ++ rest → more ≡ []
-none_more [] rest none = refl
-none_more (byte ∷ more) rest none = cc
-
--- `;` at the end of the bytes is the longest token there
-last_semicolon : IsLongest (codes ";") []
-last_semicolon = record {
-  token = inr (inr (6, omega arith, refl));
-  longest = λ more rest these some token. some (none_more more rest these);
-  no_comment = λ rest same. cc;
-}
 
 -- `static` behind a comment with a line feed and a line feed, and `x;` on the next line: `static` stands on the ninth line, where
 -- the first byte stands on the seventh, and `x` on the tenth
@@ -124,21 +393,21 @@ short_text = (
   codes "\nx;",
   (codes "/*\n*/" ∷ codes "\n" ∷ [], All-cons IsBlank (codes "/*\n*/") (codes "\n" ∷ []) (inr (inr feed_comment)) (All-cons IsBlank (codes "\n") [] (inr (inl refl)) (All-nil IsBlank)), refl),
   refl,
-  word_is_longest 115 10 (codes "tatic") (codes "x;") static_is refl refl feed_ends (λ same. cc),
+  longest_of (codes "static") (codes "\nx;") refl,
   refl,
   (
     codes "\n",
     codes ";",
     (codes "\n" ∷ [], All-cons IsBlank (codes "\n") [] (inr (inl refl)) (All-nil IsBlank), refl),
     refl,
-    word_is_longest 120 59 [] [] x_is refl refl semicolon_ends (λ same. cc),
+    longest_of (codes "x") (codes ";") refl,
     refl,
     (
       [],
       [],
       ([], All-nil IsBlank, refl),
       refl,
-      last_semicolon,
+      longest_of (codes ";") [] refl,
       tt,
       ([], All-nil IsBlank, refl),
     ),
@@ -147,7 +416,7 @@ short_text = (
 
 -- without a blank between them `static` and `x` are one word
 pub not_apart : ¬ IsLongest (codes "static") (codes "x;")
-not_apart longest = longest.longest (codes "x") (codes ";") refl (λ none. cc) (inl staticx_is)
+not_apart longest = longest.longest (codes "x") (codes ";") refl (λ none. cc) (inl (word_is (codes "staticx") refl))
 
 -- and where a token would begin a comment, it isn't there
 pub no_slash : ¬ IsLongest (codes "/") (codes "* */")

@@ -10,8 +10,7 @@ use Rattle.c_tree.specs.declared.tree.CVar.{CVar}
 use Rattle.c_tree.specs.declared.tree.CType.{CType}
 use Rattle.c_tree.specs.declared.tree.CType.TheVariants.{Int, Void}
 use Rattle.c_tree.specs.declared.tree.CFun.{CFun}
-use Rattle.c_tree.specs.declared.tree.CStmt.{CStmt}
-use Rattle.c_tree.specs.declared.tree.CStmt.TheVariants.{Call, Return, Put}
+use Rattle.c_tree.specs.Parts.{Action, Calls, actions_in}
 
 -- how many bytes something has, and of which number its place is a multiple
 pub record Extent : Type 0 where
@@ -59,11 +58,14 @@ struct_extent struct = in_a_row (map (λ member. choice_extent member member.cho
 abbrev pub frame_bytes : CFun → ℕ
 frame_bytes function = round_up (in_a_row (map (λ var. type_extent var.kind) (function.params ++ function.vars))).bytes 8 + 16
 
--- the names that a statement calls
-abbrev pub called : CStmt → List (List ℕ)
-called (Call name) = name ∷ []
-called (Return value) = []
-called (Put value) = []
+-- the names that an action calls
+abbrev pub called_by : Action → List (List ℕ)
+called_by (Calls target name arguments) = name ∷ []
+called_by other = []
+
+-- the names that a function calls
+abbrev pub called : CFun → List (List ℕ)
+called function = flat_map called_by (actions_in function.body)
 
 -- the most bytes that calls of these names can have live in inline functions, of those in the list. Each function in it calls
 -- only those behind it
@@ -71,9 +73,9 @@ abbrev pub chain_bytes : List CFun → List (List ℕ) → ℕ
 chain_bytes [] names = 0
 chain_bytes (function ∷ earlier) names =
     if function.inline && list_any (bytes_eq function.name) names
-    then max (frame_bytes function + chain_bytes earlier (flat_map called function.body)) (chain_bytes earlier names)
+    then max (frame_bytes function + chain_bytes earlier (called function)) (chain_bytes earlier names)
     else chain_bytes earlier names
 
 -- the charge of a frame: its own bytes, and the most that inline functions have below it
 abbrev pub charge : CFile → CFun → ℕ
-charge file function = frame_bytes function + chain_bytes (reverse file.functions) (flat_map called function.body)
+charge file function = frame_bytes function + chain_bytes (reverse file.functions) (called function)

@@ -1,8 +1,10 @@
 pub mod Words
+pub mod Parts
 pub mod Flat
 pub mod WellFormed
 pub mod Text
 pub mod Bytes
+pub mod Scope
 pub mod Rules
 pub mod Memory
 pub mod Meaning

@@ -1,6 +1,6 @@
 -- The memory of a C program: its globals, and the frames of the functions that have begun and not yet ended, the last one
 -- first. What a place holds is a tree: a struct has its members below it and an array its elements, by their numbers.
-use Rattle.std.specs.Prelude.{ℕ, ℤ, List, [], ◌∷◌, Option, Some, None, map, sum, drop, unwrap_or, option_and_then, if◌then◌else◌, ◌==◌}
+use Rattle.std.specs.Prelude.{ℕ, ℤ, List, [], ◌∷◌, Option, Some, None, map, sum, drop, length, slice_get, slice_set, unwrap_or, option_and_then, if◌then◌else◌, ◌==◌}
 
 -- a step from a place to one in it: to a member of a struct, to an element of an array, or to a member of a union, by number
 pub data PathStep : Type 0 where
@@ -85,3 +85,39 @@ with_frame frame memory = record memory { frames = frame ∷ memory.frames }
 -- the last frame ends
 abbrev pub without_frame : Memory → Memory
 without_frame memory = record memory { frames = drop 1 memory.frames }
+
+-- Places --------------------------------------------------------------------------------------------------------------
+
+-- what the variables of a frame hold, of the frame below which so many stand
+abbrev pub vars_at : List Frame → ℕ → List Tree
+vars_at [] below = []
+vars_at (frame ∷ frames) below = if length frames == below then frame.vars else vars_at frames below
+
+-- the frames with other variables in one of them
+abbrev pub with_vars_at : List Frame → ℕ → List Tree → List Frame
+with_vars_at [] below vars = []
+with_vars_at (frame ∷ frames) below vars = if length frames == below then record frame { vars = vars } ∷ frames else frame ∷ with_vars_at frames below vars
+
+-- the variables where a pointer leads
+abbrev pub variables : Frames → Memory → List Tree
+variables Globals memory = memory.globals
+variables (FrameAt below) memory = vars_at memory.frames below
+
+abbrev pub with_variables : Frames → List Tree → Memory → Memory
+with_variables Globals vars memory = record memory { globals = vars }
+with_variables (FrameAt below) vars memory = record memory { frames = with_vars_at memory.frames below vars }
+
+-- what a place holds, where no member of a union on the way is inactive
+abbrev pub held : Pointer → Memory → Option Tree
+held pointer memory = option_and_then (λ tree. tree_at pointer.path tree) (slice_get (variables pointer.frame memory) pointer.variable)
+
+-- the memory with something new at a place
+abbrev pub with_held : Pointer → Tree → Memory → Memory
+with_held pointer new memory =
+    let vars = variables pointer.frame memory in
+    with_variables pointer.frame (slice_set vars pointer.variable (tree_with pointer.path new (unwrap_or (slice_get vars pointer.variable) Unwritten))) memory
+
+-- how many frames stand below the last one
+abbrev pub below_last : List Frame → ℕ
+below_last [] = 0
+below_last (frame ∷ frames) = length frames

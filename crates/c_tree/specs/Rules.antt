@@ -2,9 +2,10 @@
 -- the line of its first token; a rule that is broken elsewhere is broken on the first line behind the prelude. Inside a
 -- function are its result, its parameters, its variables and its statements.
 --
--- The rules 10 to 22 are about trees. Of these 12, 14, 17, 18 and 20 speak of structs used as types, operators, places and
--- counted loops, which no tree has yet. The rules 1 to 9 are about bytes: they are kept where there is a tree with that text.
-use Rattle.std.specs.Prelude.{◌≡◌, ◌≢◌, ◌⊎◌, ℕ, ◌^◌, ◌<◌, List, [], ◌∷◌, ◌++◌, true, false, Option, Some, None, Contains, map, codes}
+-- The rules 10 to 22 are about trees. Of these 12 and 20 speak of structs used as types and of counted loops, which no tree has
+-- yet. The rules 1 to 9 are about bytes: they are kept where there is a tree with that text. An expression that names what isn't
+-- declared has no type, and breaks no rule of types.
+use Rattle.std.specs.Prelude.{◌≡◌, ◌≢◌, ◌⊎◌, ℕ, ◌^◌, ◌<◌, ◌≤◌, List, [], ◌∷◌, ◌++◌, Bool, true, false, not, ◌&&◌, ◌||◌, ◌==◌, Option, Some, None, option_map, Contains, map, codes}
 use Rattle.std.specs.List.{count_by, IsDistinct}
 use Rattle.std.specs.Str.{bytes_eq}
 use Rattle.c_tree.specs.declared.tree.CFile.{CFile}
@@ -14,10 +15,15 @@ use Rattle.c_tree.specs.declared.tree.CVar.{CVar}
 use Rattle.c_tree.specs.declared.tree.CType.{CType}
 use Rattle.c_tree.specs.declared.tree.CType.TheVariants.{Int, Void}
 use Rattle.c_tree.specs.declared.tree.CFun.{CFun}
-use Rattle.c_tree.specs.declared.tree.CStmt.{CStmt}
-use Rattle.c_tree.specs.declared.tree.CStmt.TheVariants.{Call, Return, Put}
-use Rattle.c_tree.specs.declared.tree.CExpr.{CExpr}
-use Rattle.c_tree.specs.declared.tree.CExpr.TheVariants.{Const}
+use Rattle.c_tree.specs.declared.tree.CPlace.{CPlace}
+use Rattle.c_tree.specs.declared.tree.CPlace.TheVariants.{Name}
+use Rattle.c_tree.specs.declared.tree.CStmt.{CStmt, CStmt-F, fold-CStmt}
+use Rattle.c_tree.specs.declared.tree.CStmt.TheOpen as stmt
+use Rattle.c_tree.specs.declared.tree.CExpr.{CExpr, CExpr-F, fold-CExpr}
+use Rattle.c_tree.specs.declared.tree.CExpr.TheOpen as expr
+use Rattle.c_tree.specs.Parts.{Reads, leaves, Action, Assigns, Calls, Tests, Returns, Puts, Halts, actions_in}
+use Rattle.c_tree.specs.Bytes.{called}
+use Rattle.c_tree.specs.Scope.{Scope, scope_of, variable}
 use Rattle.c_tree.specs.Words.{reserved_words}
 use Rattle.c_tree.specs.Text.{first_line}
 use Rattle.c_tree.specs.Bytes.{struct_extent}
@@ -56,11 +62,25 @@ IsDeclared file function name =
     ⊎ (function.name ≡ name)
     ⊎ ((earlier : CFun) × StandsBefore file earlier function × (earlier.name ≡ name))
 
--- 11: a called name isn't declared, or is that of a parameter or a variable of the function, which hides the function
+-- the names that an expression reads
+abbrev pub NamesRead : CExpr → List ℕ → Type 0
+NamesRead e name = Contains (leaves e) (Reads (Name name))
+
+-- the names of variables that an action has
+abbrev pub NamesVariable : Action → List ℕ → Type 0
+NamesVariable (Assigns place e) name = (place ≡ Name name) ⊎ NamesRead e name
+NamesVariable (Calls target function arguments) name = (target ≡ Some (Name name)) ⊎ ((e : CExpr) × Contains arguments e × NamesRead e name)
+NamesVariable (Tests test) name = NamesRead test name
+NamesVariable (Returns value) name = (e : CExpr) × (value ≡ Some e) × NamesRead e name
+NamesVariable (Puts e) name = NamesRead e name
+NamesVariable (Halts kind file line) name = ⊥
+
+-- 11: a called name isn't declared, or is that of a parameter or a variable of the function, which hides the function; or a
+-- variable isn't declared
 abbrev pub BreaksDeclared : CFile → CFun → Type 0
 BreaksDeclared file function =
-    (name : List ℕ) × Contains function.body (Call name)
-    × ((¬ IsDeclared file function name) ⊎ Contains (var_names (function.params ++ function.vars)) name)
+    ((name : List ℕ) × Contains (called function) name × ((¬ IsDeclared file function name) ⊎ Contains (var_names (function.params ++ function.vars)) name))
+    ⊎ ((action : Action) × (name : List ℕ) × Contains (actions_in function.body) action × NamesVariable action name × (variable (scope_of file function) name ≡ None))
 
 -- 13: an array has no element or more than 2 ^ 24, or a struct more than 2 ^ 24 bytes
 abbrev pub BreaksSizes : CFile → Type 0
@@ -69,39 +89,154 @@ BreaksSizes file =
     × ((2 ^ 24 < (struct_extent struct).bytes)
     ⊎ ((member : CMember) × (count : ℕ) × Contains struct.members member × (member.count ≡ Some count) × ((count ≡ 0) ⊎ (2 ^ 24 < count))))
 
--- the type of an expression
-abbrev pub type_of : CExpr → CType
-type_of (Const signed number) = Int signed 64
+-- Types ---------------------------------------------------------------------------------------------------------------
 
--- a statement gives or prints a value of a type that isn't the one that is wanted, or gives none in a function with a result
-abbrev pub HasWrongValue : CFun → CStmt → Type 0
-HasWrongValue function (Call name) = ⊥
-HasWrongValue function (Return None) = function.result ≢ Void
-HasWrongValue function (Return (Some value)) = type_of value ≢ function.result
-HasWrongValue function (Put value) = type_of value ≢ Int true 64
+-- `int64_t`, and a type that has the operators: it or `uint64_t`
+abbrev pub word : CType
+word = Int true 64
 
--- 15: a returned or printed value has a wrong type
-abbrev pub BreaksValues : CFun → Type 0
-BreaksValues function = (stmt : CStmt) × Contains function.body stmt × HasWrongValue function stmt
+abbrev pub is_word : CType → Bool
+is_word (Int signed width) = width == 64
+is_word Void = false
 
--- 16: a function with parameters is called without arguments
+abbrev pub is_signed_word : CType → Bool
+is_signed_word (Int signed width) = signed && width == 64
+is_signed_word Void = false
+
+abbrev pub is_unsigned_word : CType → Bool
+is_unsigned_word (Int signed width) = not signed && width == 64
+is_unsigned_word Void = false
+
+-- the type of a variable with this name
+abbrev pub type_of_name : Scope → List ℕ → Option CType
+type_of_name scope name = option_map (λ var. var.kind) (variable scope name)
+
+abbrev pub type_of_place : Scope → CPlace → Option CType
+type_of_place scope (Name name) = type_of_name scope name
+
+-- what is known of an expression: its type, where what it names is declared, and whether operands in it fit their operators
+pub record Typed : Type 0 where
+  pub type : Option CType
+  pub fits : Bool
+
+-- both are of 64 bits with a sign, or both without one
+abbrev pub words_alike : CType → CType → Bool
+words_alike left right = (is_signed_word left && is_signed_word right) || (is_unsigned_word left && is_unsigned_word right)
+
+-- two operands fit where one of them has no type
+abbrev pub operands_fit : Option CType → Option CType → Bool
+operands_fit (Some left) (Some right) = words_alike left right
+operands_fit (Some left) None = true
+operands_fit None right = true
+
+abbrev pub operand_fits : Option CType → Bool
+operand_fits None = true
+operand_fits (Some operand) = is_signed_word operand
+
+abbrev pub typed_step : Scope → CExpr-F Typed → Typed
+typed_step scope (expr.Const signed number) = record { type = Some (Int signed 64); fits = true }
+typed_step scope (expr.Read place) = record { type = type_of_place scope place; fits = true }
+typed_step scope (expr.Binary operator left right) = record { type = left.type; fits = left.fits && right.fits && operands_fit left.type right.type }
+typed_step scope (expr.Compare comparison left right) = record { type = Some word; fits = left.fits && right.fits && operands_fit left.type right.type }
+typed_step scope (expr.Negate operand) = record { type = Some word; fits = operand.fits && operand_fits operand.type }
+
+unfoldable pub typed : Scope → CExpr → Typed
+typed scope e = fold-CExpr Typed (typed_step scope) e
+
+-- the expressions of an action
+abbrev pub HasExpr : Action → CExpr → Type 0
+HasExpr (Assigns place value) e = value ≡ e
+HasExpr (Calls target name arguments) e = Contains arguments e
+HasExpr (Tests test) e = test ≡ e
+HasExpr (Returns value) e = value ≡ Some e
+HasExpr (Puts value) e = value ≡ e
+HasExpr (Halts kind file line) e = ⊥
+
+-- 14: operands aren't both `int64_t` or both `uint64_t`, or `-` stands before an operand that isn't an `int64_t`
+abbrev pub BreaksOperands : CFile → CFun → Type 0
+BreaksOperands file function =
+    (action : Action) × (e : CExpr) × Contains (actions_in function.body) action × HasExpr action e × ((typed (scope_of file function) e).fits ≡ false)
+
+-- an expression has a type that isn't this one
+abbrev pub HasOtherType : Scope → CExpr → CType → Type 0
+HasOtherType scope e wanted = (other : CType) × ((typed scope e).type ≡ Some other) × (other ≢ wanted)
+
+-- an action stores, gives or puts a value of a type that isn't the one that is wanted, or gives none in a function with a result
+abbrev pub HasWrongValue : Scope → CFun → Action → Type 0
+HasWrongValue scope function (Assigns place e) = (kind : CType) × (type_of_place scope place ≡ Some kind) × HasOtherType scope e kind
+HasWrongValue scope function (Calls target name arguments) = ⊥
+HasWrongValue scope function (Tests test) = ⊥
+HasWrongValue scope function (Returns None) = function.result ≢ Void
+HasWrongValue scope function (Returns (Some e)) = HasOtherType scope e function.result
+HasWrongValue scope function (Puts e) = HasOtherType scope e word
+HasWrongValue scope function (Halts kind file line) = ⊥
+
+-- 15: an assigned, returned or printed value has a wrong type
+abbrev pub BreaksValues : CFile → CFun → Type 0
+BreaksValues file function = (action : Action) × Contains (actions_in function.body) action × HasWrongValue (scope_of file function) function action
+
+-- arguments don't fit parameters: they differ in number, or one has another type
+abbrev pub ArgumentsMisfit : Scope → List CExpr → List CVar → Type 0
+ArgumentsMisfit scope [] [] = ⊥
+ArgumentsMisfit scope [] (param ∷ params) = Unit {0}
+ArgumentsMisfit scope (argument ∷ arguments) [] = Unit {0}
+ArgumentsMisfit scope (argument ∷ arguments) (param ∷ params) = HasOtherType scope argument param.kind ⊎ ArgumentsMisfit scope arguments params
+
+-- a function calls another, with these arguments, and its result goes there
+abbrev pub CallsSo : CFile → CFun → CFun → Option CPlace → List CExpr → Type 0
+CallsSo file function callee target arguments =
+    Contains file.functions callee × Contains (actions_in function.body) (Calls target callee.name arguments)
+
+-- 16: arguments differ in number or type from the parameters
 abbrev pub BreaksArguments : CFile → CFun → Type 0
-BreaksArguments file function = (callee : CFun) × Contains file.functions callee × Contains function.body (Call callee.name) × (callee.params ≢ [])
+BreaksArguments file function =
+    (callee : CFun) × (target : Option CPlace) × (arguments : List CExpr) × CallsSo file function callee target arguments
+    × ArgumentsMisfit (scope_of file function) arguments callee.params
+
+-- 17: the result of a void call is taken, or a result goes to a place that isn't of its type
+abbrev pub BreaksResults : CFile → CFun → Type 0
+BreaksResults file function =
+    (callee : CFun) × (place : CPlace) × (arguments : List CExpr) × CallsSo file function callee (Some place) arguments
+    × ((callee.result ≡ Void) ⊎ ((kind : CType) × (type_of_place (scope_of file function) place ≡ Some kind) × (kind ≢ callee.result)))
+
+-- 18: a condition isn't of a type of 64 bits
+abbrev pub BreaksConditions : CFile → CFun → Type 0
+BreaksConditions file function =
+    (test : CExpr) × (other : CType) × Contains (actions_in function.body) (Tests test)
+    × ((typed (scope_of file function) test).type ≡ Some other) × (is_word other ≡ false)
 
 -- 19: an inline function calls a function that isn't an inline one before it
 abbrev pub BreaksInline : CFile → CFun → Type 0
 BreaksInline file function =
     (function.inline ≡ true)
-    × ((name : List ℕ) × Contains function.body (Call name)
+    × ((name : List ℕ) × Contains (called function) name
     × ((callee : CFun) → StandsBefore file callee function → callee.inline ≡ true → callee.name ≢ name))
 
--- the last statement is a return
-abbrev pub EndsByReturn : List CStmt → Type 0
-EndsByReturn body = (before : List CStmt) × (value : Option CExpr) × (body ≡ before ++ Return value ∷ [])
+-- whether the last of some is so
+abbrev pub last_is : List Bool → Bool
+last_is [] = false
+last_is (so ∷ []) = so
+last_is (so ∷ other ∷ others) = last_is (other ∷ others)
+
+abbrev pub last_else : Option (List Bool) → Bool
+last_else None = false
+last_else (Some others) = last_is others
+
+abbrev pub ends_step : CStmt-F Bool → Bool
+ends_step (stmt.Return value) = true
+ends_step (stmt.Halt kind file line) = true
+ends_step (stmt.If test chosen other) = last_is chosen && last_else other
+ends_step (stmt.Assign place e) = false
+ends_step (stmt.Call target name arguments) = false
+ends_step (stmt.Put e) = false
+
+-- whether nothing comes behind a statement: it is a return or a halt, or an `if` with `else` both of whose blocks end so
+unfoldable pub ends_function : CStmt → Bool
+ends_function s = fold-CStmt Bool ends_step s
 
 -- 21: a function with a result can come to its end without a return
 abbrev pub BreaksEnd : CFun → Type 0
-BreaksEnd function = (function.result ≢ Void) × ¬ EndsByReturn function.body
+BreaksEnd function = (function.result ≢ Void) × (last_is (map ends_function function.body) ≡ false)
 
 -- a function and its prototype are alike, names of parameters included
 pub record AreAlike (proto function : CFun) : Type 0 where
@@ -129,8 +264,11 @@ abbrev pub BreaksInside : CFile → CFun → ℕ → Type 0
 BreaksInside file function rule =
     ((rule ≡ 10) × BreaksLocalNames function)
     ⊎ ((rule ≡ 11) × BreaksDeclared file function)
-    ⊎ ((rule ≡ 15) × BreaksValues function)
+    ⊎ ((rule ≡ 14) × BreaksOperands file function)
+    ⊎ ((rule ≡ 15) × BreaksValues file function)
     ⊎ ((rule ≡ 16) × BreaksArguments file function)
+    ⊎ ((rule ≡ 17) × BreaksResults file function)
+    ⊎ ((rule ≡ 18) × BreaksConditions file function)
     ⊎ ((rule ≡ 19) × BreaksInline file function)
     ⊎ ((rule ≡ 21) × BreaksEnd function)
 
@@ -150,3 +288,8 @@ Breaks file rule line =
 -- no rule is broken
 abbrev pub KeepsRules : CFile → Type 0
 KeepsRules file = (rule line : ℕ) → ¬ Breaks file rule line
+
+-- of the rules that are broken, the one on the least line, and of those on one line the one with the least number
+pub record IsFirstBroken (file : CFile) (rule line : ℕ) : Type 0 where
+  pub broken : Breaks file rule line
+  pub first : (other elsewhere : ℕ) → Breaks file other elsewhere → (line < elsewhere) ⊎ ((line ≡ elsewhere) × (rule ≤ other))

@@ -1,5 +1,6 @@
 -- The trees that a text can have: what the grammar of Flat.antt asks of a tree beside the order of its tokens.
-use Rattle.std.specs.Prelude.{◌≡◌, ◌≢◌, ◌⊎◌, ℕ, ◌+◌, ◌-◌, ◌^◌, ◌≤◌, List, [], ◌∷◌, Bool, true, false, Some, None, IfSome, All}
+use Rattle.std.specs.Prelude.{◌≡◌, ◌≢◌, ◌⊎◌, ℕ, ◌+◌, ◌-◌, ◌^◌, ◌≤◌, List, [], ◌∷◌, Bool, true, false, Option, Some, None, IfSome, All, max, map}
+use Rattle.std.specs.List.{fold}
 use Rattle.c_tree.specs.declared.tree.CFile.{CFile}
 use Rattle.c_tree.specs.declared.tree.CStruct.{CStruct}
 use Rattle.c_tree.specs.declared.tree.CMember.{CMember}
@@ -7,11 +8,14 @@ use Rattle.c_tree.specs.declared.tree.CVar.{CVar}
 use Rattle.c_tree.specs.declared.tree.CType.{CType}
 use Rattle.c_tree.specs.declared.tree.CType.TheVariants.{Int, Void}
 use Rattle.c_tree.specs.declared.tree.CFun.{CFun}
-use Rattle.c_tree.specs.declared.tree.CStmt.{CStmt}
-use Rattle.c_tree.specs.declared.tree.CStmt.TheVariants.{Call, Return, Put}
-use Rattle.c_tree.specs.declared.tree.CExpr.{CExpr}
-use Rattle.c_tree.specs.declared.tree.CExpr.TheVariants.{Const}
+use Rattle.c_tree.specs.declared.tree.CPlace.{CPlace}
+use Rattle.c_tree.specs.declared.tree.CPlace.TheVariants.{Name}
+use Rattle.c_tree.specs.declared.tree.CStmt.{CStmt, CStmt-F, fold-CStmt}
+use Rattle.c_tree.specs.declared.tree.CStmt.TheOpen as stmt
+use Rattle.c_tree.specs.declared.tree.CExpr.{CExpr, CExpr-F, fold-CExpr}
+use Rattle.c_tree.specs.declared.tree.CExpr.TheOpen as expr
 use Rattle.c_tree.specs.Words.{IsName}
+use Rattle.c_tree.specs.Parts.{Leaf, Constant, Reads, leaves, Action, Assigns, Calls, Tests, Returns, Puts, Halts, argument_of, actions}
 
 -- the widths of integer types, in bits
 abbrev pub IsWidth : ℕ → Type 0
@@ -69,28 +73,71 @@ pub record IsProto (function : CFun) : Type 0 where
   pub vars : function.vars ≡ []
   pub body : function.body ≡ []
 
+abbrev pub IsPlace : CPlace → Type 0
+IsPlace (Name name) = IsName name
+
+abbrev pub IsLeaf : Leaf → Type 0
+IsLeaf (Constant signed number) = number ≤ greatest signed
+IsLeaf (Reads place) = IsPlace place
+
 abbrev pub IsExpr : CExpr → Type 0
-IsExpr (Const signed number) = number ≤ greatest signed
+IsExpr e = All IsLeaf (leaves e)
+
+-- the numbers of a halt have 8, 32 and 32 bits
+abbrev pub IsAction : Action → Type 0
+IsAction (Assigns place e) = IsPlace place × IsExpr e
+IsAction (Calls target name arguments) = IfSome target IsPlace × IsName name × All IsExpr arguments
+IsAction (Tests test) = IsExpr test
+IsAction (Returns value) = IfSome value IsExpr
+IsAction (Puts e) = IsExpr e
+IsAction (Halts kind file line) = (kind ≤ 2 ^ 8 - 1) × (file ≤ 2 ^ 32 - 1) × (line ≤ 2 ^ 32 - 1)
 
 abbrev pub IsStmt : CStmt → Type 0
-IsStmt (Call name) = IsName name
-IsStmt (Return value) = IfSome value IsExpr
-IsStmt (Put value) = IsExpr value
+IsStmt s = All IsAction (actions s)
+
+abbrev pub expr_depth_step : CExpr-F ℕ → ℕ
+expr_depth_step (expr.Const signed number) = 1
+expr_depth_step (expr.Read place) = 1
+expr_depth_step (expr.Binary operator left right) = 1 + max left right
+expr_depth_step (expr.Compare comparison left right) = 1 + max left right
+expr_depth_step (expr.Negate operand) = 1 + operand
+
+-- how deep expressions nest
+unfoldable pub expr_depth : CExpr → ℕ
+expr_depth e = fold-CExpr ℕ expr_depth_step e
+
+abbrev pub deepest : List ℕ → ℕ
+deepest depths = fold max 0 depths
+
+abbrev pub deepest_else : Option (List ℕ) → ℕ
+deepest_else None = 0
+deepest_else (Some depths) = deepest depths
+
+abbrev pub returned_depth : Option CExpr → ℕ
+returned_depth None = 0
+returned_depth (Some e) = expr_depth e
+
+-- a place is one node, which a call has where it has a target
+abbrev pub target_depth : Option CPlace → ℕ
+target_depth None = 0
+target_depth (Some place) = 1
+
+abbrev pub stmt_depth_step : CStmt-F ℕ → ℕ
+stmt_depth_step (stmt.Assign place e) = 1 + max 1 (expr_depth e)
+stmt_depth_step (stmt.Call target name arguments) = 1 + max (target_depth target) (deepest (map (λ argument. expr_depth (argument_of argument)) arguments))
+stmt_depth_step (stmt.If test chosen other) = 1 + max (expr_depth test) (max (deepest chosen) (deepest_else other))
+stmt_depth_step (stmt.Return value) = 1 + returned_depth value
+stmt_depth_step (stmt.Put e) = 1 + expr_depth e
+stmt_depth_step (stmt.Halt kind file line) = 1
+
+-- how deep statements and expressions nest
+unfoldable pub stmt_depth : CStmt → ℕ
+stmt_depth s = fold-CStmt ℕ stmt_depth_step s
 
 pub record IsFunction (function : CFun) : Type 0 where
   pub head : IsHead function
   pub vars : All IsVar function.vars
   pub body : All IsStmt function.body
-
--- how deep statements and expressions nest
-abbrev pub expr_depth : CExpr → ℕ
-expr_depth (Const signed number) = 1
-
-abbrev pub stmt_depth : CStmt → ℕ
-stmt_depth (Call name) = 1
-stmt_depth (Return None) = 1
-stmt_depth (Return (Some value)) = 1 + expr_depth value
-stmt_depth (Put value) = 1 + expr_depth value
 
 -- a tree that a text can have, but for the lines of its functions
 pub record IsWellFormed (file : CFile) : Type 0 where

@@ -6,7 +6,7 @@ mod fault;
 mod tree;
 
 pub use fault::{CFault, NotC};
-pub use tree::{CExpr, CFile, CFun, CMember, CStmt, CStruct, CType, CVar};
+pub use tree::{CArg, CBinary, CExpr, CFile, CFun, CMember, CPlace, CStmt, CStruct, CType, CVar};
 
 #[cfg(test)]
 mod tests;

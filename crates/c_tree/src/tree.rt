@@ -1,4 +1,5 @@
-use sl_text::{Row, Text};
+use sl_num::Comparison;
+use sl_text::{Boxed, Row, Text};
 
 /// A C file: its structs, global variables, prototypes and functions, in order. A prototype is a function without variables
 /// and statements.
@@ -56,12 +57,32 @@ pub struct CFun {
 /// A statement.
 #[derive(Drop)]
 pub enum CStmt {
-    /// `NAME();`
-    Call(Text),
+    /// `PLACE = EXPR;`
+    Assign(CPlace, CExpr),
+    /// `NAME(ARGS);`, or `PLACE = NAME(ARGS);`
+    Call(Option<CPlace>, Text, Row<CArg>),
+    /// `if (EXPR) { .. }`, or `if (EXPR) { .. } else { .. }`
+    If(CExpr, Row<CStmt>, Option<Row<CStmt>>),
     /// `return EXPR;`, or `return;`
     Return(Option<CExpr>),
     /// `sl_put(EXPR);`
     Put(CExpr),
+    /// `sl_halt(KIND, FILE, LINE);`
+    Halt(u8, u32, u32),
+}
+
+/// An argument of a call.
+#[derive(Drop)]
+pub enum CArg {
+    /// `EXPR`
+    Value(CExpr),
+}
+
+/// A place.
+#[derive(Drop)]
+pub enum CPlace {
+    /// `NAME`
+    Name(Text),
 }
 
 /// An expression.
@@ -69,4 +90,22 @@ pub enum CStmt {
 pub enum CExpr {
     /// `INT64_C(NUMBER)` where it is signed, and else `UINT64_C(NUMBER)`
     Const(bool, u64),
+    /// `PLACE`
+    Read(CPlace),
+    /// `(EXPR OPERATOR EXPR)`
+    Binary(CBinary, Boxed<CExpr>, Boxed<CExpr>),
+    /// `(int64_t)(EXPR COMPARISON EXPR)`
+    Compare(Comparison, Boxed<CExpr>, Boxed<CExpr>),
+    /// `(-EXPR)`
+    Negate(Boxed<CExpr>),
+}
+
+/// An operator between two operands: `+`, `-`, `*`, `/` or `%`.
+#[derive(Clone, Copy, Debug, PartialEq, Eq)]
+pub enum CBinary {
+    Add,
+    Sub,
+    Mul,
+    Div,
+    Rem,
 }

@@ -1,4 +1,4 @@
--- Where a token ends: before a byte that no token has behind its first, and behind a bracket or a point that stands alone.
+-- Where a token ends: before a byte that no token has behind its first, and behind a bracket, a point or a `-` that stands alone.
 use Rattle.std.proofs.Common.{◌≡◌, ◌≢◌, ℕ, List, [], ◌∷◌, ◌++◌, Bool, true, false, not, ◌||◌, refl, sym, ◌∙◌, subst, inl, inr, arith, Contains, codes, bytes_eq}
 use Rattle.std.specs.Prelude.{◌==◌}
 use Rattle.std.specs.Char.{is_ascii_alphanumeric}
@@ -99,9 +99,9 @@ longest_before spelling behind is ends = record {
   no_comment = λ rest. no_comment_before spelling behind rest ends is;
 }
 
--- whether this is `(`, `[` or `.`
+-- whether this is `(`, `[`, `.` or `-`
 abbrev opens : ℕ → Bool
-opens byte = (byte == 40) || (byte == 91) || (byte == 46)
+opens byte = (byte == 40) || (byte == 91) || (byte == 46) || (byte == 45)
 
 -- whether bytes are one of these alone, and whether they are one of these with more behind
 abbrev opens_alone : List ℕ → Bool
@@ -143,6 +143,6 @@ opening_longest (first ∷ []) behind alone is = record { token = is; longest = 
         let not_so : false ≡ true = subst (λ b. opens b ≡ true) same alone
         in cc
 
--- each spelling that is one of the tokens that open
-pub longest_opening : (spelling behind : List ℕ) → is_one_of opening spelling ≡ true → IsToken spelling → IsLongest spelling behind
-longest_opening spelling behind one is = opening_longest spelling behind (one_passes opens_alone opening spelling refl one) is
+-- each spelling that is one of these
+pub longest_tight : (spelling behind : List ℕ) → is_one_of (codes "-" ∷ opening) spelling ≡ true → IsToken spelling → IsLongest spelling behind
+longest_tight spelling behind one is = opening_longest spelling behind (one_passes opens_alone (codes "-" ∷ opening) spelling refl one) is

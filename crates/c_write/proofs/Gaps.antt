@@ -1,17 +1,17 @@
 -- The blanks before a token are spaces and line feeds, and each token ends where they begin.
-use Rattle.std.proofs.Common.{◌≡◌, ◌≢◌, ◌⊎◌, ℕ, ◌-◌, ◌*◌, List, [], ◌∷◌, ◌++◌, map, replicate, Bool, true, false, refl, ap, inl, inr, ⊎_elim, All, codes, bytes_eq}
+use Rattle.std.proofs.Common.{◌≡◌, ◌≢◌, ◌⊎◌, ℕ, ◌-◌, ◌*◌, List, [], ◌∷◌, ◌++◌, map, replicate, Bool, true, false, ◌||◌, refl, ap, inl, inr, ⊎_elim, All, codes, bytes_eq}
 use Rattle.std.specs.Prelude.{◌==◌, if◌then◌else◌}
 use Rattle.std.specs.List.{flat_map, list_all}
-use Rattle.std.proofs.lemmas.Bool.{cond_both, cases_Bool, both_ways, or_left}
+use Rattle.std.proofs.lemmas.Bool.{cond_both, cases_Bool, both_ways, or_left, or_right}
 use Rattle.std.proofs.lemmas.List.Elements.{All-nil, All-cons, All-map, All-weaker, All-replicate}
 use Rattle.c_tree.specs.Flat.{Lexeme}
 use Rattle.c_tree.specs.Words.{IsToken}
 use Rattle.c_tree.specs.Text.{IsBlank, AreBlanks, IsLongest}
 use Rattle.c_write.specs.declared.layout.After.{After}
-use Rattle.c_write.specs.declared.layout.After.TheVariants.{Nothing, Line, Block, Bracket, Keyword, Other}
+use Rattle.c_write.specs.declared.layout.After.TheVariants.{Nothing, Line, Block, Bracket, Spaced, Other}
 use Rattle.c_write.specs.declared.layout.Place.{Place}
-use Rattle.c_write.specs.Layout.{is_one_of, opening, closing, applying, keywords, after_token, next_depth, moved, new_line, space_before, gap_after, laid}
-use Rattle.c_write.proofs.Ends.{one_passes, ends_token, ends_token-append, longest_before, longest_opening}
+use Rattle.c_write.specs.Layout.{is_one_of, opening, closing, applying, is_sign, keywords, operators, comparisons, after_token, next_depth, moved, new_line, space_before, gap_after, laid}
+use Rattle.c_write.proofs.Ends.{one_passes, ends_token, ends_token-append, longest_before, longest_tight}
 
 -- a space or a line feed
 abbrev pub IsSpace : ℕ → Type 0
@@ -66,7 +66,7 @@ gap_spaces Line depth next = new_line_spaces depth next
 gap_spaces Block depth next =
     block_gap depth next (All IsSpace) (λ e. All-nil IsSpace) one_space (All-cons IsSpace 10 (10 ∷ []) (inr refl) one_feed) (new_line_spaces depth next)
 gap_spaces Bracket depth next = All-nil IsSpace
-gap_spaces Keyword depth next = space_before_spaces closing next
+gap_spaces Spaced depth next = space_before_spaces closing next
 gap_spaces Other depth next = space_before_spaces (closing ++ applying) next
 
 -- each token ends before a mark before which there is no space, and before a space
@@ -85,37 +85,51 @@ gap_ends Block depth next more some other =
     (λ e. ends_token-append next more (one_passes ends_token (codes ";" ∷ []) next refl (or_left (bytes_eq (codes ";") next) false e)))
     refl refl refl
 gap_ends Bracket depth next more some other = absurd (other refl)
-gap_ends Keyword depth next more some other = tight_ends closing next more refl
+gap_ends Spaced depth next more some other = tight_ends closing next more refl
 gap_ends Other depth next more some other = tight_ends (closing ++ applying) next more refl
 
 -- by four tests nothing is never chosen, and a bracket only where the third passes
-chosen : (block line bracket keyword : Bool) → let after = if block then Block else if line then Line else if bracket then Bracket else if keyword then Keyword else Other in (after ≢ Nothing) × (after ≡ Bracket → bracket ≡ true)
-chosen true line bracket keyword = (λ e. cc, λ e. cc)
-chosen false true bracket keyword = (λ e. cc, λ e. cc)
-chosen false false true keyword = (λ e. cc, λ e. refl)
+chosen : (block line bracket space : Bool) → let after = if block then Block else if line then Line else if bracket then Bracket else if space then Spaced else Other in (after ≢ Nothing) × (after ≡ Bracket → bracket ≡ true)
+chosen true line bracket space = (λ e. cc, λ e. cc)
+chosen false true bracket space = (λ e. cc, λ e. cc)
+chosen false false true space = (λ e. cc, λ e. refl)
 chosen false false false true = (λ e. cc, λ e. cc)
 chosen false false false false = (λ e. cc, λ e. cc)
 
--- so a token is never nothing, and it is such a bracket only where it is `(`, `[` or `.`
-token_chosen : (spelling : List ℕ) → (after_token spelling ≢ Nothing) × (after_token spelling ≡ Bracket → is_one_of opening spelling ≡ true)
-token_chosen spelling =
-    chosen (bytes_eq (codes "}") spelling) (is_one_of (codes ";" ∷ codes "{" ∷ []) spelling) (is_one_of opening spelling) (is_one_of keywords spelling)
+-- whether nothing stands behind a token on its line
+abbrev is_tight : After → List ℕ → Bool
+is_tight before spelling = is_sign before spelling || is_one_of opening spelling
+
+-- so a token is never nothing, and it is such a bracket only where it is `(`, `[`, `.` or a sign
+token_chosen : (before : After) (spelling : List ℕ) → (after_token before spelling ≢ Nothing) × (after_token before spelling ≡ Bracket → is_tight before spelling ≡ true)
+token_chosen before spelling =
+    chosen (bytes_eq (codes "}") spelling) (is_one_of (codes ";" ∷ codes "{" ∷ []) spelling) (is_tight before spelling) (is_one_of keywords spelling || is_one_of operators spelling || is_one_of comparisons spelling)
 
 -- a token other than these ends before what is laid behind it
-behind_ends : (place : Place) (spelling : List ℕ) (tokens : List Lexeme) → is_one_of opening spelling ≡ false → ends_token (laid (moved place spelling) tokens ++ codes "\n") ≡ true
+behind_ends : (place : Place) (spelling : List ℕ) (tokens : List Lexeme) → is_tight place.after spelling ≡ false → ends_token (laid (moved place spelling) tokens ++ codes "\n") ≡ true
 behind_ends place spelling [] other = refl
 behind_ends place spelling (token ∷ tokens) other =
-    let after = after_token spelling in
+    let after = after_token place.after spelling in
     let depth = next_depth place.depth spelling in
-    let more = laid (moved (moved place spelling) token.spelling) tokens
+    let more = laid (moved (moved place spelling) token.spelling) tokens in
+    let chosen_so = token_chosen place.after spelling
     in ends_token-append (gap_after after depth token.spelling ++ token.spelling ++ more) (codes "\n")
-    (gap_ends after depth token.spelling more (token_chosen spelling).0 (λ e. both_ways (is_one_of opening spelling) other ((token_chosen spelling).1 e)))
+    (gap_ends after depth token.spelling more chosen_so.0 (λ e. both_ways (is_tight place.after spelling) other (chosen_so.1 e)))
+
+-- then it is one of these marks
+tight_one : (before : After) (spelling : List ℕ) → is_tight before spelling ≡ true → is_one_of (codes "-" ∷ opening) spelling ≡ true
+tight_one Nothing spelling e = or_right (bytes_eq (codes "-") spelling) (is_one_of opening spelling) e
+tight_one Line spelling e = or_right (bytes_eq (codes "-") spelling) (is_one_of opening spelling) e
+tight_one Block spelling e = or_right (bytes_eq (codes "-") spelling) (is_one_of opening spelling) e
+tight_one Bracket spelling e = e
+tight_one Spaced spelling e = or_right (bytes_eq (codes "-") spelling) (is_one_of opening spelling) e
+tight_one Other spelling e = or_right (bytes_eq (codes "-") spelling) (is_one_of opening spelling) e
 
 -- each token is the longest with which it and what is laid behind it begin
 pub longest_laid : (place : Place) (spelling : List ℕ) (tokens : List Lexeme) → IsToken spelling → IsLongest spelling (laid (moved place spelling) tokens ++ codes "\n")
 longest_laid place spelling tokens is =
     let behind = laid (moved place spelling) tokens ++ codes "\n"
     in ⊎_elim
-    (λ one. longest_opening spelling behind one is)
+    (λ tight. longest_tight spelling behind (tight_one place.after spelling tight) is)
     (λ other. longest_before spelling behind is (behind_ends place spelling tokens other))
-    (cases_Bool (is_one_of opening spelling))
+    (cases_Bool (is_tight place.after spelling))

@@ -1,5 +1,5 @@
 -- A tree with the lines on which its functions stand: its tokens say these lines, and nothing else of it is different.
-use Rattle.std.proofs.Common.{◌≡◌, ℕ, ◌≤◌, List, [], ◌∷◌, ◌++◌, Bool, true, false, Option, Some, None, refl, sym, ap, ap₂, ◌∙◌, All, codes, decimal}
+use Rattle.std.proofs.Common.{◌≡◌, ℕ, ◌≤◌, List, [], ◌∷◌, ◌++◌, Bool, true, false, Option, Some, None, refl, sym, ap, ap₂, subst, ◌∙◌, map, All, codes, decimal}
 use Rattle.std.specs.List.{flat_map}
 use Rattle.std.proofs.lemmas.List.Elements.{All-nil, All-cons, All-head, All-tail}
 use Rattle.c_tree.specs.declared.tree.CFile.{CFile}
@@ -7,13 +7,18 @@ use Rattle.c_tree.specs.declared.tree.CStruct.{CStruct}
 use Rattle.c_tree.specs.declared.tree.CMember.{CMember}
 use Rattle.c_tree.specs.declared.tree.CVar.{CVar}
 use Rattle.c_tree.specs.declared.tree.CFun.{CFun}
-use Rattle.c_tree.specs.declared.tree.CStmt.{CStmt}
-use Rattle.c_tree.specs.declared.tree.CStmt.TheVariants.{Call, Return, Put}
-use Rattle.c_tree.specs.declared.tree.CExpr.{CExpr}
-use Rattle.c_tree.specs.declared.tree.CExpr.TheVariants.{Const}
-use Rattle.c_tree.specs.Flat.{Lexeme, lexeme, lexemes, type_name, flat_typed, flat_var, flat_count, flat_choice, flat_struct, flat_global, flat_params, flat_inline, flat_proto, const_word, flat_expr, flat_stmt, flat_function, cflat}
+use Rattle.c_tree.specs.declared.tree.CPlace.{CPlace}
+use Rattle.c_tree.specs.declared.tree.CPlace.TheVariants.{Name}
+use Rattle.c_tree.specs.declared.tree.CArg.{CArg}
+use Rattle.c_tree.specs.declared.tree.CArg.TheVariants.{Value}
+use Rattle.c_tree.specs.declared.tree.CStmt.{CStmt, CStmt-F, ind-CStmt, map-CStmt, roll-CStmt}
+use Rattle.c_tree.specs.declared.tree.CStmt.TheOpen as stmt
+use Rattle.c_tree.specs.declared.tree.CExpr.{CExpr, CExpr-F, ind-CExpr, map-CExpr, roll-CExpr}
+use Rattle.c_tree.specs.declared.tree.CExpr.TheOpen as expr
+use Rattle.c_tree.specs.Flat.{Lexeme, lexeme, lexemes, type_name, flat_typed, flat_var, flat_count, flat_choice, flat_struct, flat_global, flat_params, flat_inline, flat_proto, const_word, operator_mark, comparison_mark, flat_place, flat_expr, flat_expr_step, flat_argument, flat_arguments, flat_target, flat_block, flat_returned, flat_stmt, flat_stmt_step, flat_function, cflat}
 use Rattle.c_tree.specs.WellFormed.{IsHead, IsProto, IsFunction, IsWellFormed, stmt_depth}
 use Rattle.c_write.specs.Lined.{Spot, line_at, behind_token, behind, first_spot, lined_all, protos_spot, functions_spot, lined}
+use Rattle.c_tree.proofs.Layers.{flat_expr_layer, flat_stmt_layer}
 use Rattle.c_write.proofs.Stamped.{stamped}
 
 -- Lists of tokens -----------------------------------------------------------------------------------------------------
@@ -102,16 +107,92 @@ head_plain function =
     join (join (join (inline_plain function.inline) (plain (type_name function.result ∷ function.name ∷ codes "(" ∷ []))) (params_plain function.params))
     (plain (codes ")" ∷ []))
 
+-- a place
+place_plain : (place : CPlace) → SayNoLine (flat_place place)
+place_plain (Name name) = plain (name ∷ [])
+
 -- an expression
-expr_plain : (expr : CExpr) → SayNoLine (flat_expr expr)
-expr_plain (Const signed number) = plain (const_word signed ∷ codes "(" ∷ decimal number ∷ codes ")" ∷ [])
+expr_plain : (e : CExpr) → SayNoLine (flat_expr e)
+expr_plain e = ind-CExpr Plain (λ x y same. subst (λ z. Plain (roll-CExpr z)) same (layer y)) e
+  where
+    Plain : CExpr → Type 0
+    Plain x = SayNoLine (flat_expr x)
+
+    Known : Type 0
+    Known = (x : CExpr) × Plain x
+
+    of_layer : (x : CExpr-F CExpr) → SayNoLine (flat_expr_step (map-CExpr CExpr (List Lexeme) flat_expr x)) → Plain (roll-CExpr x)
+    of_layer x says = subst SayNoLine (sym (flat_expr_layer x)) says
+
+    layer : (y : CExpr-F Known) → Plain (roll-CExpr (map-CExpr Known CExpr (λ known. known.0) y))
+    layer (expr.Const signed number) = of_layer (expr.Const signed number) (plain (const_word signed ∷ codes "(" ∷ decimal number ∷ codes ")" ∷ []))
+    layer (expr.Read place) = of_layer (expr.Read place) (place_plain place)
+    layer (expr.Binary operator left right) =
+        of_layer (expr.Binary operator left.0 right.0)
+        (join (join (join (join (plain (codes "(" ∷ [])) left.1) (plain (operator_mark operator ∷ []))) right.1) (plain (codes ")" ∷ [])))
+    layer (expr.Compare comparison left right) =
+        of_layer (expr.Compare comparison left.0 right.0)
+        (join (join (join (join (plain (codes "(" ∷ codes "int64_t" ∷ codes ")" ∷ codes "(" ∷ [])) left.1) (plain (comparison_mark comparison ∷ []))) right.1) (plain (codes ")" ∷ [])))
+    layer (expr.Negate operand) =
+        of_layer (expr.Negate operand.0) (join (join (plain (codes "(" ∷ codes "-" ∷ [])) operand.1) (plain (codes ")" ∷ [])))
+
+-- an argument
+argument_plain : (argument : CArg) → SayNoLine (flat_argument argument)
+argument_plain (Value e) = expr_plain e
+
+-- the arguments of a call
+arguments_plain : (arguments : List CArg) → SayNoLine (flat_arguments arguments)
+arguments_plain [] = plain []
+arguments_plain (first ∷ others) = join (argument_plain first) (all_of (λ argument. join (plain (codes "," ∷ [])) (argument_plain argument)) others)
+
+-- where the result of a call goes
+target_plain : (target : Option CPlace) → SayNoLine (flat_target target)
+target_plain None = plain []
+target_plain (Some place) = join (place_plain place) (plain (codes "=" ∷ []))
+
+-- what is returned
+returned_plain : (value : Option CExpr) → SayNoLine (flat_returned value)
+returned_plain None = plain []
+returned_plain (Some e) = expr_plain e
 
 -- a statement
-stmt_plain : (stmt : CStmt) → SayNoLine (flat_stmt stmt)
-stmt_plain (Call name) = plain (name ∷ codes "(" ∷ codes ")" ∷ codes ";" ∷ [])
-stmt_plain (Return None) = plain (codes "return" ∷ codes ";" ∷ [])
-stmt_plain (Return (Some value)) = join (join (plain (codes "return" ∷ [])) (expr_plain value)) (plain (codes ";" ∷ []))
-stmt_plain (Put value) = join (join (plain (codes "sl_put" ∷ codes "(" ∷ [])) (expr_plain value)) (plain (codes ")" ∷ codes ";" ∷ []))
+stmt_plain : (s : CStmt) → SayNoLine (flat_stmt s)
+stmt_plain s = ind-CStmt Plain (λ x y same. subst (λ z. Plain (roll-CStmt z)) same (layer y)) s
+  where
+    Plain : CStmt → Type 0
+    Plain x = SayNoLine (flat_stmt x)
+
+    Known : Type 0
+    Known = (x : CStmt) × Plain x
+
+    first : Known → CStmt
+    first known = known.0
+
+    of_layer : (x : CStmt-F CStmt) → SayNoLine (flat_stmt_step (map-CStmt CStmt (List Lexeme) flat_stmt x)) → Plain (roll-CStmt x)
+    of_layer x says = subst SayNoLine (sym (flat_stmt_layer x)) says
+
+    inner : (stmts : List Known) → SayNoLine (flat_map (λ tokens. tokens) (map flat_stmt (map first stmts)))
+    inner [] = plain []
+    inner (known ∷ stmts) = join known.1 (inner stmts)
+
+    block : (stmts : List Known) → SayNoLine (flat_block (map flat_stmt (map first stmts)))
+    block stmts = join (join (plain (codes "{" ∷ [])) (inner stmts)) (plain (codes "}" ∷ []))
+
+    tested : (test : CExpr) (chosen : List Known) → SayNoLine (lexemes (codes "if" ∷ codes "(" ∷ []) ++ flat_expr test ++ lexemes (codes ")" ∷ []) ++ flat_block (map flat_stmt (map first chosen)))
+    tested test chosen = join (join (join (plain (codes "if" ∷ codes "(" ∷ [])) (expr_plain test)) (plain (codes ")" ∷ []))) (block chosen)
+
+    layer : (y : CStmt-F Known) → Plain (roll-CStmt (map-CStmt Known CStmt first y))
+    layer (stmt.Assign place e) = of_layer (stmt.Assign place e) (join (join (join (place_plain place) (plain (codes "=" ∷ []))) (expr_plain e)) (plain (codes ";" ∷ [])))
+    layer (stmt.Call target name arguments) =
+        of_layer (stmt.Call target name arguments)
+        (join (join (join (target_plain target) (plain (name ∷ codes "(" ∷ []))) (arguments_plain arguments)) (plain (codes ")" ∷ codes ";" ∷ [])))
+    layer (stmt.If test chosen None) = of_layer (stmt.If test (map first chosen) None) (join (tested test chosen) (plain []))
+    layer (stmt.If test chosen (Some other)) =
+        of_layer (stmt.If test (map first chosen) (Some (map first other))) (join (tested test chosen) (join (plain (codes "else" ∷ [])) (block other)))
+    layer (stmt.Return value) = of_layer (stmt.Return value) (join (join (plain (codes "return" ∷ [])) (returned_plain value)) (plain (codes ";" ∷ [])))
+    layer (stmt.Put e) = of_layer (stmt.Put e) (join (join (plain (codes "sl_put" ∷ codes "(" ∷ [])) (expr_plain e)) (plain (codes ")" ∷ codes ";" ∷ [])))
+    layer (stmt.Halt kind file line) =
+        of_layer (stmt.Halt kind file line) (plain (codes "sl_halt" ∷ codes "(" ∷ decimal kind ∷ codes "," ∷ decimal file ∷ codes "," ∷ decimal line ∷ codes ")" ∷ codes ";" ∷ []))
 
 -- Functions -----------------------------------------------------------------------------------------------------------
 

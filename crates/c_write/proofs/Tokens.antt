@@ -1,5 +1,5 @@
 -- Every token of a well-formed tree is one.
-use Rattle.std.proofs.Common.{◌≡◌, ℕ, ◌-◌, ◌^◌, ◌<◌, ◌≤◌, List, [], ◌∷◌, ◌++◌, length, Bool, true, false, not, ◌&&◌, ◌||◌, Option, Some, None, refl, sym, ap, subst, inl, inr, ⊎_elim, arith, rules, All, IfSome, codes, decimal, bytes_eq}
+use Rattle.std.proofs.Common.{◌≡◌, ℕ, ◌-◌, ◌^◌, ◌<◌, ◌≤◌, List, [], ◌∷◌, ◌++◌, length, Bool, true, false, not, ◌&&◌, ◌||◌, Option, Some, None, refl, sym, ap, subst, inl, inr, ⊎_elim, arith, rules, All, IfSome, map, codes, decimal, bytes_eq}
 use Rattle.std.specs.Prelude.{◌==◌}
 use Rattle.std.specs.Char.{is_ascii_alphanumeric, is_ascii_digit}
 use Rattle.std.specs.Fmt.{digits}
@@ -18,13 +18,23 @@ use Rattle.c_tree.specs.declared.tree.CVar.{CVar}
 use Rattle.c_tree.specs.declared.tree.CType.{CType}
 use Rattle.c_tree.specs.declared.tree.CType.TheVariants.{Int, Void}
 use Rattle.c_tree.specs.declared.tree.CFun.{CFun}
-use Rattle.c_tree.specs.declared.tree.CStmt.{CStmt}
-use Rattle.c_tree.specs.declared.tree.CStmt.TheVariants.{Call, Return, Put}
-use Rattle.c_tree.specs.declared.tree.CExpr.{CExpr}
-use Rattle.c_tree.specs.declared.tree.CExpr.TheVariants.{Const}
+use Rattle.sl_num.specs.declared.comparing.Comparison.{Comparison}
+use Rattle.sl_num.specs.declared.comparing.Comparison.TheVariants.{Less, LessEqual, Greater, GreaterEqual, Equal, NotEqual}
+use Rattle.c_tree.specs.declared.tree.CBinary.{CBinary}
+use Rattle.c_tree.specs.declared.tree.CBinary.TheVariants.{Add, Sub, Mul, Div, Rem}
+use Rattle.c_tree.specs.declared.tree.CPlace.{CPlace}
+use Rattle.c_tree.specs.declared.tree.CPlace.TheVariants.{Name}
+use Rattle.c_tree.specs.declared.tree.CArg.{CArg}
+use Rattle.c_tree.specs.declared.tree.CArg.TheVariants.{Value}
+use Rattle.c_tree.specs.declared.tree.CStmt.{CStmt, CStmt-F, ind-CStmt, map-CStmt, roll-CStmt}
+use Rattle.c_tree.specs.declared.tree.CStmt.TheOpen as stmt
+use Rattle.c_tree.specs.declared.tree.CExpr.{CExpr, CExpr-F, ind-CExpr, map-CExpr, roll-CExpr}
+use Rattle.c_tree.specs.declared.tree.CExpr.TheOpen as expr
 use Rattle.c_tree.specs.Words.{IsIdentifierByte, IsDigit, IsIdentifier, marks, IsToken, IsName}
-use Rattle.c_tree.specs.Flat.{Lexeme, lexeme, lexemes, type_name, flat_typed, flat_var, flat_count, flat_choice, flat_member, flat_struct, flat_global, flat_params, flat_inline, flat_head, flat_proto, flat_expr, flat_stmt, flat_function, cflat}
-use Rattle.c_tree.specs.WellFormed.{IsWidth, IsInteger, IsWord, IsResult, IsVar, IsParam, IsChoice, IsMember, IsStruct, IsHead, IsProto, IsExpr, IsStmt, IsFunction, IsWellFormed}
+use Rattle.c_tree.specs.Flat.{Lexeme, lexeme, lexemes, type_name, flat_typed, flat_var, flat_count, flat_choice, flat_member, flat_struct, flat_global, flat_params, flat_inline, flat_head, flat_proto, const_word, operator_mark, comparison_mark, flat_place, flat_expr, flat_expr_step, flat_argument, flat_arguments, flat_target, flat_block, flat_returned, flat_stmt, flat_stmt_step, flat_function, cflat}
+use Rattle.c_tree.specs.Parts.{Leaf, Constant, Reads, leaves, leaves_step, Action, Assigns, Calls, Tests, Returns, Puts, Halts, actions, actions_step, argument_of, arguments_of, joined}
+use Rattle.c_tree.specs.WellFormed.{IsWidth, IsInteger, IsWord, IsResult, IsVar, IsParam, IsChoice, IsMember, IsStruct, IsHead, IsProto, IsPlace, IsLeaf, IsExpr, IsAction, IsStmt, IsFunction, IsWellFormed}
+use Rattle.c_tree.proofs.Layers.{flat_expr_layer, flat_stmt_layer, leaves_layer, actions_layer}
 
 -- Spellings -----------------------------------------------------------------------------------------------------------
 
@@ -131,6 +141,13 @@ all_of : {A : Type 0} {Good : A → Type 0} {flat : A → List Lexeme} → ((x :
 all_of one [] good = no_tokens
 all_of {A} {Good} one (x ∷ xs) good = join (one x (All-head Good x xs good)) (all_of one xs (All-tail Good x xs good))
 
+-- what holds of each in two lists together holds of each in both
+all_parts : {A : Type 0} (P : A → Type 0) (front back : List A) → All P (front ++ back) → All P front × All P back
+all_parts P [] back are = (All-nil P, are)
+all_parts P (x ∷ front) back are =
+    let parts = all_parts P front back (All-tail P x (front ++ back) are)
+    in (All-cons P x front (All-head P x (front ++ back) are) parts.0, parts.1)
+
 -- The forms -----------------------------------------------------------------------------------------------------------
 
 -- a name
@@ -199,17 +216,149 @@ head_tokens function is =
 proto_tokens : (function : CFun) → IsProto function → AreTokens (flat_proto function)
 proto_tokens function is = join (head_tokens function is.head) (fixed (codes ";" ∷ []) refl)
 
+-- a place
+place_tokens : (place : CPlace) → IsPlace place → AreTokens (flat_place place)
+place_tokens (Name name) is = next (name_is name is) no_tokens
+
+-- an operator and a comparison
+operator_is : (operator : CBinary) → IsToken (operator_mark operator)
+operator_is Add = fixed_is (codes "+") refl
+operator_is Sub = fixed_is (codes "-") refl
+operator_is Mul = fixed_is (codes "*") refl
+operator_is Div = fixed_is (codes "/") refl
+operator_is Rem = fixed_is (codes "%") refl
+
+comparison_is : (comparison : Comparison) → IsToken (comparison_mark comparison)
+comparison_is Less = fixed_is (codes "<") refl
+comparison_is LessEqual = fixed_is (codes "<=") refl
+comparison_is Greater = fixed_is (codes ">") refl
+comparison_is GreaterEqual = fixed_is (codes ">=") refl
+comparison_is Equal = fixed_is (codes "==") refl
+comparison_is NotEqual = fixed_is (codes "!=") refl
+
+-- a constant
+const_tokens : (signed : Bool) (number : ℕ) → IsLeaf (Constant signed number) → AreTokens (lexemes (const_word signed ∷ codes "(" ∷ decimal number ∷ codes ")" ∷ []))
+const_tokens true number small = join (fixed (codes "INT64_C" ∷ codes "(" ∷ []) refl) (next (decimal_is number (omega arith)) (fixed (codes ")" ∷ []) refl))
+const_tokens false number small = join (fixed (codes "UINT64_C" ∷ codes "(" ∷ []) refl) (next (decimal_is number (omega arith)) (fixed (codes ")" ∷ []) refl))
+
 -- an expression
-expr_tokens : (expr : CExpr) → IsExpr expr → AreTokens (flat_expr expr)
-expr_tokens (Const true number) small = join (fixed (codes "INT64_C" ∷ codes "(" ∷ []) refl) (next (decimal_is number (omega arith)) (fixed (codes ")" ∷ []) refl))
-expr_tokens (Const false number) small = join (fixed (codes "UINT64_C" ∷ codes "(" ∷ []) refl) (next (decimal_is number (omega arith)) (fixed (codes ")" ∷ []) refl))
+expr_tokens : (e : CExpr) → IsExpr e → AreTokens (flat_expr e)
+expr_tokens e = ind-CExpr Good (λ x y same. subst (λ z. Good (roll-CExpr z)) same (layer y)) e
+  where
+    Good : CExpr → Type 0
+    Good x = IsExpr x → AreTokens (flat_expr x)
+
+    Known : Type 0
+    Known = (x : CExpr) × Good x
+
+    of_layer : (x : CExpr-F CExpr) → (All IsLeaf (leaves_step (map-CExpr CExpr (List Leaf) leaves x)) → AreTokens (flat_expr_step (map-CExpr CExpr (List Lexeme) flat_expr x))) → Good (roll-CExpr x)
+    of_layer x tokens is = subst AreTokens (sym (flat_expr_layer x)) (tokens (subst (All IsLeaf) (leaves_layer x) is))
+
+    pair : (front : List Lexeme) (left right : Known) {mark : List ℕ} → AreTokens front → IsToken mark → All IsLeaf (leaves left.0 ++ leaves right.0) → AreTokens (front ++ flat_expr left.0 ++ lexemes (mark ∷ []) ++ flat_expr right.0 ++ lexemes (codes ")" ∷ []))
+    pair front left right opens mark_is is =
+        let both = all_parts IsLeaf (leaves left.0) (leaves right.0) is
+        in join (join (join (join opens (left.1 both.0)) (next mark_is no_tokens)) (right.1 both.1)) (fixed (codes ")" ∷ []) refl)
+
+    layer : (y : CExpr-F Known) → Good (roll-CExpr (map-CExpr Known CExpr (λ known. known.0) y))
+    layer (expr.Const signed number) = of_layer (expr.Const signed number) (λ is. const_tokens signed number (All-head IsLeaf (Constant signed number) [] is))
+    layer (expr.Read place) = of_layer (expr.Read place) (λ is. place_tokens place (All-head IsLeaf (Reads place) [] is))
+    layer (expr.Binary operator left right) =
+        of_layer (expr.Binary operator left.0 right.0) (pair (lexemes (codes "(" ∷ [])) left right (fixed (codes "(" ∷ []) refl) (operator_is operator))
+    layer (expr.Compare comparison left right) =
+        of_layer (expr.Compare comparison left.0 right.0)
+        (pair (lexemes (codes "(" ∷ codes "int64_t" ∷ codes ")" ∷ codes "(" ∷ [])) left right (fixed (codes "(" ∷ codes "int64_t" ∷ codes ")" ∷ codes "(" ∷ []) refl) (comparison_is comparison))
+    layer (expr.Negate operand) =
+        of_layer (expr.Negate operand.0) (λ is. join (join (fixed (codes "(" ∷ codes "-" ∷ []) refl) (operand.1 is)) (fixed (codes ")" ∷ []) refl))
+
+-- an argument
+argument_tokens : (argument : CArg) → IsExpr (argument_of argument) → AreTokens (flat_argument argument)
+argument_tokens (Value e) is = expr_tokens e is
+
+-- the arguments of a call, of which each but the first stands behind a comma
+arguments_tokens : (arguments : List CArg) → All IsExpr (arguments_of arguments) → AreTokens (flat_arguments arguments)
+arguments_tokens [] are = no_tokens
+arguments_tokens (first ∷ others) are =
+    join (argument_tokens first (All-head IsExpr (argument_of first) (arguments_of others) are))
+    (behind_first others (All-tail IsExpr (argument_of first) (arguments_of others) are))
+  where
+    behind_first : (those : List CArg) → All IsExpr (arguments_of those) → AreTokens (flat_map (λ argument. lexemes (codes "," ∷ []) ++ flat_argument argument) those)
+    behind_first [] good = no_tokens
+    behind_first (argument ∷ those) good =
+        join (join (fixed (codes "," ∷ []) refl) (argument_tokens argument (All-head IsExpr (argument_of argument) (arguments_of those) good)))
+        (behind_first those (All-tail IsExpr (argument_of argument) (arguments_of those) good))
+
+-- where the result of a call goes
+target_tokens : (target : Option CPlace) → IfSome target IsPlace → AreTokens (flat_target target)
+target_tokens None is = no_tokens
+target_tokens (Some place) is = join (place_tokens place is) (fixed (codes "=" ∷ []) refl)
+
+-- what is returned
+returned_tokens : (value : Option CExpr) → IfSome value IsExpr → AreTokens (flat_returned value)
+returned_tokens None is = no_tokens
+returned_tokens (Some e) is = expr_tokens e is
+
+-- a halt
+halt_tokens : (kind file line : ℕ) → IsAction (Halts kind file line) → AreTokens (flat_stmt_step (stmt.Halt kind file line))
+halt_tokens kind file line is =
+    join (fixed (codes "sl_halt" ∷ codes "(" ∷ []) refl)
+    (next (decimal_is kind (let small = is.0 in omega arith))
+    (next (fixed_is (codes ",") refl)
+    (next (decimal_is file (let small = is.1 in omega arith))
+    (next (fixed_is (codes ",") refl)
+    (next (decimal_is line (let small = is.2 in omega arith)) (fixed (codes ")" ∷ codes ";" ∷ []) refl))))))
 
 -- a statement
-stmt_tokens : (stmt : CStmt) → IsStmt stmt → AreTokens (flat_stmt stmt)
-stmt_tokens (Call name) is = next (name_is name is) (fixed (codes "(" ∷ codes ")" ∷ codes ";" ∷ []) refl)
-stmt_tokens (Return None) is = fixed (codes "return" ∷ codes ";" ∷ []) refl
-stmt_tokens (Return (Some value)) is = join (join (fixed (codes "return" ∷ []) refl) (expr_tokens value is)) (fixed (codes ";" ∷ []) refl)
-stmt_tokens (Put value) is = join (join (fixed (codes "sl_put" ∷ codes "(" ∷ []) refl) (expr_tokens value is)) (fixed (codes ")" ∷ codes ";" ∷ []) refl)
+stmt_tokens : (s : CStmt) → IsStmt s → AreTokens (flat_stmt s)
+stmt_tokens s = ind-CStmt Good (λ x y same. subst (λ z. Good (roll-CStmt z)) same (layer y)) s
+  where
+    Good : CStmt → Type 0
+    Good x = IsStmt x → AreTokens (flat_stmt x)
+
+    Known : Type 0
+    Known = (x : CStmt) × Good x
+
+    first : Known → CStmt
+    first known = known.0
+
+    of_layer : (x : CStmt-F CStmt) → (All IsAction (actions_step (map-CStmt CStmt (List Action) actions x)) → AreTokens (flat_stmt_step (map-CStmt CStmt (List Lexeme) flat_stmt x))) → Good (roll-CStmt x)
+    of_layer x tokens is = subst AreTokens (sym (flat_stmt_layer x)) (tokens (subst (All IsAction) (actions_layer x) is))
+
+    -- of a statement that is one action
+    of_one : (x : CStmt-F CStmt) (action : Action) → actions_step (map-CStmt CStmt (List Action) actions x) ≡ action ∷ [] → (IsAction action → AreTokens (flat_stmt_step (map-CStmt CStmt (List Lexeme) flat_stmt x))) → Good (roll-CStmt x)
+    of_one x action one tokens = of_layer x (λ is. tokens (All-head IsAction action [] (subst (All IsAction) one is)))
+
+    inner : (stmts : List Known) → All IsAction (joined (map actions (map first stmts))) → AreTokens (flat_map (λ tokens. tokens) (map flat_stmt (map first stmts)))
+    inner [] is = no_tokens
+    inner (known ∷ stmts) is =
+        let parts = all_parts IsAction (actions known.0) (joined (map actions (map first stmts))) is
+        in join (known.1 parts.0) (inner stmts parts.1)
+
+    block : (stmts : List Known) → All IsAction (joined (map actions (map first stmts))) → AreTokens (flat_block (map flat_stmt (map first stmts)))
+    block stmts is = join (join (fixed (codes "{" ∷ []) refl) (inner stmts is)) (fixed (codes "}" ∷ []) refl)
+
+    tested : (test : CExpr) (chosen : List Known) (rest : List Action) {tokens : List Lexeme} → (All IsAction rest → AreTokens tokens) → All IsAction (Tests test ∷ joined (map actions (map first chosen)) ++ rest) → AreTokens (lexemes (codes "if" ∷ codes "(" ∷ []) ++ flat_expr test ++ lexemes (codes ")" ∷ []) ++ flat_block (map flat_stmt (map first chosen)) ++ tokens)
+    tested test chosen rest other is =
+        let inside = joined (map actions (map first chosen)) in
+        let parts = all_parts IsAction inside rest (All-tail IsAction (Tests test) (inside ++ rest) is) in
+        let test_is = expr_tokens test (All-head IsAction (Tests test) (inside ++ rest) is)
+        in join (join (join (join (fixed (codes "if" ∷ codes "(" ∷ []) refl) test_is) (fixed (codes ")" ∷ []) refl)) (block chosen parts.0)) (other parts.1)
+
+    layer : (y : CStmt-F Known) → Good (roll-CStmt (map-CStmt Known CStmt first y))
+    layer (stmt.Assign place e) =
+        of_one (stmt.Assign place e) (Assigns place e) refl
+        (λ is. join (join (join (place_tokens place is.0) (fixed (codes "=" ∷ []) refl)) (expr_tokens e is.1)) (fixed (codes ";" ∷ []) refl))
+    layer (stmt.Call target name arguments) =
+        of_one (stmt.Call target name arguments) (Calls target name (arguments_of arguments)) refl
+        (λ is. join (join (join (target_tokens target is.0) (next (name_is name is.1) (fixed (codes "(" ∷ []) refl))) (arguments_tokens arguments is.2)) (fixed (codes ")" ∷ codes ";" ∷ []) refl))
+    layer (stmt.If test chosen None) = of_layer (stmt.If test (map first chosen) None) (tested test chosen [] (λ is. no_tokens))
+    layer (stmt.If test chosen (Some other)) =
+        of_layer (stmt.If test (map first chosen) (Some (map first other)))
+        (tested test chosen (joined (map actions (map first other))) (λ is. join (fixed (codes "else" ∷ []) refl) (block other is)))
+    layer (stmt.Return value) =
+        of_one (stmt.Return value) (Returns value) refl (λ is. join (join (fixed (codes "return" ∷ []) refl) (returned_tokens value is)) (fixed (codes ";" ∷ []) refl))
+    layer (stmt.Put e) =
+        of_one (stmt.Put e) (Puts e) refl (λ is. join (join (fixed (codes "sl_put" ∷ codes "(" ∷ []) refl) (expr_tokens e is)) (fixed (codes ")" ∷ codes ";" ∷ []) refl))
+    layer (stmt.Halt kind file line) = of_one (stmt.Halt kind file line) (Halts kind file line) refl (halt_tokens kind file line)
 
 -- a function
 function_tokens : (function : CFun) → IsFunction function → AreTokens (flat_function function)

@@ -69,6 +69,11 @@ pub lexemes_each : {X : Type 0} (f : X → List ℕ) (xs : List X) → flat_map 
 lexemes_each f [] = refl
 lexemes_each f (x ∷ xs) = ap (λ rest. lexeme (f x) ∷ rest) (lexemes_each f xs)
 
+-- the tokens of items are those lists one behind another
+pub flat_each : {X : Type 0} (f : X → List Lexeme) (xs : List X) → flat_map f xs ≡ flat_map (λ tokens. tokens) (map f xs)
+flat_each f [] = refl
+flat_each f (x ∷ xs) = ap (λ rest. f x ++ rest) (flat_each f xs)
+
 -- the tokens of a member that is a union
 pub flat_union : (member : CMember) (choice : List CVar) → choice ≢ [] → lexemes (codes "union" ∷ codes "{" ∷ []) ++ flat_map flat_var choice ++ lexemes (codes "}" ∷ member.name ∷ codes ";" ∷ []) ≡ flat_choice member choice
 flat_union member [] some = absurd (some refl)

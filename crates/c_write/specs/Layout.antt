@@ -1,12 +1,12 @@
 -- The text that the writer gives a tree: the blanks before each token, by what stands before it.
-use Rattle.std.specs.Prelude.{ℕ, ◌+◌, ◌-◌, ◌*◌, ◌^◌, List, [], ◌∷◌, ◌++◌, Bool, ◌==◌, min, replicate, if◌then◌else◌, codes}
+use Rattle.std.specs.Prelude.{ℕ, ◌+◌, ◌-◌, ◌*◌, ◌^◌, List, [], ◌∷◌, ◌++◌, Bool, false, ◌||◌, ◌==◌, min, replicate, if◌then◌else◌, codes}
 use Rattle.std.specs.List.{list_any}
 use Rattle.std.specs.Str.{bytes_eq}
 use Rattle.c_tree.specs.declared.tree.CFile.{CFile}
 use Rattle.c_tree.specs.Flat.{Lexeme, cflat}
 use Rattle.c_tree.specs.Text.{prelude, postlude}
 use Rattle.c_write.specs.declared.layout.After.{After}
-use Rattle.c_write.specs.declared.layout.After.TheVariants.{Nothing, Line, Block, Bracket, Keyword, Other}
+use Rattle.c_write.specs.declared.layout.After.TheVariants.{Nothing, Line, Block, Bracket, Spaced, Other}
 use Rattle.c_write.specs.declared.layout.Place.{Place}
 
 -- whether this is one of some spellings
@@ -25,17 +25,29 @@ closing = codes ")" ∷ codes "]" ∷ codes ";" ∷ codes "," ∷ codes "." ∷ 
 abbrev pub applying : List (List ℕ)
 applying = codes "(" ∷ codes "[" ∷ []
 
+-- whether this is a sign, behind which nothing stands on its line: a `-` behind a bracket that opens
+abbrev pub is_sign : After → List ℕ → Bool
+is_sign Bracket spelling = bytes_eq (codes "-") spelling
+is_sign _ spelling = false
+
 -- the words behind which there is a space, even before a bracket
 abbrev pub keywords : List (List ℕ)
 keywords = codes "if" ∷ codes "while" ∷ codes "for" ∷ codes "return" ∷ []
 
--- what a token is, as far as the blanks behind it depend on it
-abbrev pub after_token : List ℕ → After
-after_token spelling =
+-- the marks behind which there is one too: the comma, `=`, and the operators and comparisons of two numbers
+abbrev pub operators : List (List ℕ)
+operators = codes "," ∷ codes "=" ∷ codes "+" ∷ codes "-" ∷ codes "*" ∷ codes "/" ∷ codes "%" ∷ []
+
+abbrev pub comparisons : List (List ℕ)
+comparisons = codes "<" ∷ codes "<=" ∷ codes ">" ∷ codes ">=" ∷ codes "==" ∷ codes "!=" ∷ []
+
+-- what a token is, as far as the blanks behind it depend on it, by what stands before it
+abbrev pub after_token : After → List ℕ → After
+after_token before spelling =
     if bytes_eq (codes "}") spelling then Block
     else if is_one_of (codes ";" ∷ codes "{" ∷ []) spelling then Line
-    else if is_one_of opening spelling then Bracket
-    else if is_one_of keywords spelling then Keyword
+    else if is_sign before spelling || is_one_of opening spelling then Bracket
+    else if is_one_of keywords spelling || is_one_of operators spelling || is_one_of comparisons spelling then Spaced
     else Other
 
 -- how many braces are open behind a token, up to 2 ^ 32 - 1
@@ -51,7 +63,7 @@ first_place = record { after = Nothing; depth = 0 }
 
 -- behind a token
 abbrev pub moved : Place → List ℕ → Place
-moved place spelling = record { after = after_token spelling; depth = next_depth place.depth spelling }
+moved place spelling = record { after = after_token place.after spelling; depth = next_depth place.depth spelling }
 
 -- a new line with four spaces for each open brace, but for the one that the token closes
 abbrev pub new_line : ℕ → List ℕ → List ℕ
@@ -71,7 +83,7 @@ gap_after Block depth next =
     else if depth == 0 then 10 ∷ 10 ∷ []
     else new_line depth next
 gap_after Bracket depth next = []
-gap_after Keyword depth next = space_before closing next
+gap_after Spaced depth next = space_before closing next
 gap_after Other depth next = space_before (closing ++ applying) next
 
 abbrev pub gap : Place → List ℕ → List ℕ

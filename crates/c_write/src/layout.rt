@@ -1,7 +1,7 @@
 // Where tokens stand: the blanks before each.
 ghost use Rattle.std.specs.Prelude.{◌≡◌, ◌++◌, ◌∷◌, [], OnOk, map, if◌then◌else◌};
 ghost use Rattle.c_tree.specs.Flat.{lexemes};
-ghost use Rattle.c_write.specs.Layout.{first_place, gap, is_one_of, opening, closing, applying, keywords, new_line, space_before, after_token, next_depth};
+ghost use Rattle.c_write.specs.Layout.{first_place, gap, is_one_of, opening, closing, applying, is_sign, keywords, operators, comparisons, new_line, space_before, after_token, next_depth};
 ghost use Rattle.c_write.specs.Written.{Writes};
 
 use sl_text::Mem;
@@ -16,10 +16,10 @@ pub enum After {
     Line,
     /// the end of a block, behind which a line may go on
     Block,
-    /// a bracket that opens
+    /// a bracket that opens, or a sign
     Bracket,
-    /// a word behind which there is a space, also before a bracket
-    Keyword,
+    /// a word or a mark behind which there is a space, also before a bracket
+    Spaced,
     /// any other token
     Other,
 }
@@ -79,7 +79,7 @@ impl Writer {
         self.blanks(spelling)?;
         self.put(spelling)?;
         self.place = Place {
-            after: after_token(spelling),
+            after: after_token(self.place.after, spelling),
             depth: next_depth(self.place.depth, spelling),
         };
         Ok(())
@@ -98,7 +98,7 @@ impl Writer {
             After::Block if next == b"else".as_slice() => self.put(b" "),
             After::Block if depth == 0 => self.put(b"\n\n"),
             After::Block => self.new_line(depth, next),
-            After::Keyword => self.space(is_closing(next)),
+            After::Spaced => self.space(is_closing(next)),
             After::Other => self.space(is_closing(next) || is_applying(next)),
         }
     }
@@ -128,17 +128,47 @@ impl Writer {
     }
 }
 
-/// What a token is, as far as the blanks behind it depend on it.
-fn after_token(spelling: &[u8]) -> After
-    ensures { result ≡ after_token spelling.now }
+/// What a token is, as far as the blanks behind it depend on it, by what stands before it.
+fn after_token(before: After, spelling: &[u8]) -> After
+    ensures { result ≡ after_token before spelling.now }
 {
     match spelling {
         b"}" => After::Block,
         b";" | b"{" => After::Line,
         b"(" | b"[" | b"." => After::Bracket,
-        b"if" | b"while" | b"for" | b"return" => After::Keyword,
+        _ if is_sign(before, spelling) => After::Bracket,
+        _ if is_keyword(spelling) || is_operator(spelling) || is_comparison(spelling) =>
+            After::Spaced,
         _ => After::Other,
     }
+}
+
+/// Whether this token is a sign: a `-` behind a bracket that opens.
+fn is_sign(before: After, token: &[u8]) -> bool
+    ensures { result ≡ is_sign before token.now }
+{
+    before == After::Bracket && token == b"-".as_slice()
+}
+
+/// Whether this is a word with a space behind it, also before a bracket.
+fn is_keyword(token: &[u8]) -> bool
+    ensures { result ≡ is_one_of keywords token.now }
+{
+    matches!(token, b"if" | b"while" | b"for" | b"return")
+}
+
+/// Whether this is the comma, `=` or an operator of two numbers.
+fn is_operator(token: &[u8]) -> bool
+    ensures { result ≡ is_one_of operators token.now }
+{
+    matches!(token, b"," | b"=" | b"+" | b"-" | b"*" | b"/" | b"%")
+}
+
+/// Whether this is a comparison of two numbers.
+fn is_comparison(token: &[u8]) -> bool
+    ensures { result ≡ is_one_of comparisons token.now }
+{
+    matches!(token, b"<" | b"<=" | b">" | b">=" | b"==" | b"!=")
 }
 
 /// How many braces are open behind a token, up to 2^32 - 1.

@@ -1,12 +1,14 @@
 // The tokens of a tree, one form after another.
 #![tactic(auto, using(crate::proofs::Writing::wrote_none))]
 
-ghost use Rattle.std.specs.Prelude.{◌≡◌, ◌∷◌, []};
-ghost use Rattle.c_tree.specs.Flat.{cflat, lexemes, type_name, flat_typed, flat_var, flat_count, flat_choice, flat_member, flat_struct, flat_global, flat_params, flat_inline, flat_head, flat_proto, const_word, flat_expr, flat_stmt, flat_function};
+ghost use Rattle.std.specs.Prelude.{◌≡◌, ◌∷◌, [], map};
+ghost use Rattle.c_tree.specs.Flat.{cflat, lexemes, type_name, flat_typed, flat_var, flat_count, flat_choice, flat_member, flat_struct, flat_global, flat_params, flat_inline, flat_head, flat_proto, const_word, operator_mark, comparison_mark, flat_place, flat_expr, flat_argument, flat_arguments, flat_target, flat_block, flat_returned, flat_stmt, flat_function};
+ghost use Rattle.c_tree.specs.declared.tree.CStmt.TheVariants.{Halt};
 ghost use Rattle.c_write.specs.Written.{Writes};
 
 use crate::layout::Writer;
-use c_tree::{CExpr, CFile, CFun, CMember, CStmt, CStruct, CType, CVar};
+use c_tree::{CArg, CBinary, CExpr, CFile, CFun, CMember, CPlace, CStmt, CStruct, CType, CVar};
+use sl_num::Comparison;
 use sl_text::Mem;
 use std::alloc::Global;
 
@@ -151,15 +153,39 @@ fn write_params(alloc: Global, writer: &mut Writer, params: &[CVar]) -> Result<(
     Ok(())
 }
 
+#[cycle(write_tree)]
 fn write_stmt(alloc: Global, writer: &mut Writer, stmt: &CStmt) -> Result<(), Mem>
     ensures { Writes (flat_stmt stmt.now) writer.old writer.new result }
 {
     match stmt {
-        CStmt::Call(name) => writer.tokens(&[name.as_str().as_bytes(), b"(", b")", b";"]),
-        CStmt::Return(None) => writer.tokens(&[b"return", b";"]),
-        CStmt::Return(Some(value)) => {
-            writer.token(b"return")?;
+        CStmt::Assign(place, value) => {
+            write_place(writer, place)?;
+            writer.token(b"=")?;
             write_expr(alloc, writer, value)?;
+            writer.token(b";")
+        }
+        CStmt::Call(target, name, arguments) => {
+            write_target(writer, target)?;
+            writer.tokens(&[name.as_str().as_bytes(), b"("])?;
+            write_arguments(alloc, writer, arguments.as_slice())?;
+            writer.tokens(&[b")", b";"])
+        }
+        CStmt::If(test, chosen, other) => {
+            writer.tokens(&[b"if", b"("])?;
+            write_expr(alloc, writer, test)?;
+            writer.token(b")")?;
+            write_block(alloc, writer, chosen.as_slice())?;
+            match other {
+                None => Ok(()),
+                Some(stmts) => {
+                    writer.token(b"else")?;
+                    write_block(alloc, writer, stmts.as_slice())
+                }
+            }
+        }
+        CStmt::Return(value) => {
+            writer.token(b"return")?;
+            write_returned(alloc, writer, value)?;
             writer.token(b";")
         }
         CStmt::Put(value) => {
@@ -167,6 +193,91 @@ fn write_stmt(alloc: Global, writer: &mut Writer, stmt: &CStmt) -> Result<(), Me
             write_expr(alloc, writer, value)?;
             writer.tokens(&[b")", b";"])
         }
+        CStmt::Halt(kind, file, line) => write_halt(alloc, writer, *kind, *file, *line),
+    }
+}
+
+#[cycle(write_tree)]
+fn write_block(alloc: Global, writer: &mut Writer, stmts: &[CStmt]) -> Result<(), Mem>
+    ensures { Writes (flat_block (map flat_stmt stmts.now)) writer.old writer.new result }
+{
+    writer.token(b"{")?;
+    for stmt in stmts {
+        write_stmt(alloc, writer, stmt)?;
+    }
+    writer.token(b"}")
+}
+
+/// Where the result of a call goes.
+fn write_target(writer: &mut Writer, target: &Option<CPlace>) -> Result<(), Mem>
+    ensures { Writes (flat_target target.now) writer.old writer.new result }
+{
+    match target {
+        None => Ok(()),
+        Some(place) => {
+            write_place(writer, place)?;
+            writer.token(b"=")
+        }
+    }
+}
+
+/// The arguments of a call.
+fn write_arguments(alloc: Global, writer: &mut Writer, arguments: &[CArg]) -> Result<(), Mem>
+    ensures { Writes (flat_arguments arguments.now) writer.old writer.new result }
+{
+    let Some((first, others)) = arguments.split_first() else {
+        return Ok(());
+    };
+    write_argument(alloc, writer, first)?;
+    for argument in others {
+        writer.token(b",")?;
+        write_argument(alloc, writer, argument)?;
+    }
+    Ok(())
+}
+
+fn write_argument(alloc: Global, writer: &mut Writer, argument: &CArg) -> Result<(), Mem>
+    ensures { Writes (flat_argument argument.now) writer.old writer.new result }
+{
+    match argument {
+        CArg::Value(value) => write_expr(alloc, writer, value),
+    }
+}
+
+/// What is returned.
+fn write_returned(alloc: Global, writer: &mut Writer, value: &Option<CExpr>) -> Result<(), Mem>
+    ensures { Writes (flat_returned value.now) writer.old writer.new result }
+{
+    match value {
+        None => Ok(()),
+        Some(value) => write_expr(alloc, writer, value),
+    }
+}
+
+fn write_halt(alloc: Global, writer: &mut Writer, kind: u8, file: u32, line: u32) -> Result<(), Mem>
+    ensures { Writes (flat_stmt (Halt kind file line)) writer.old writer.new result }
+{
+    let kind = format!(in alloc; "{kind}")?;
+    let file = format!(in alloc; "{file}")?;
+    let line = format!(in alloc; "{line}")?;
+    writer.tokens(&[
+        b"sl_halt",
+        b"(",
+        kind.as_bytes(),
+        b",",
+        file.as_bytes(),
+        b",",
+        line.as_bytes(),
+        b")",
+        b";",
+    ])
+}
+
+fn write_place(writer: &mut Writer, place: &CPlace) -> Result<(), Mem>
+    ensures { Writes (flat_place place.now) writer.old writer.new result }
+{
+    match place {
+        CPlace::Name(name) => writer.token(name.as_str().as_bytes()),
     }
 }
 
@@ -178,6 +289,26 @@ fn write_expr(alloc: Global, writer: &mut Writer, expr: &CExpr) -> Result<(), Me
             let digits = format!(in alloc; "{number}")?;
             writer.tokens(&[const_word(*signed), b"(", digits.as_bytes(), b")"])
         }
+        CExpr::Read(place) => write_place(writer, place),
+        CExpr::Binary(operator, left, right) => {
+            writer.token(b"(")?;
+            write_expr(alloc, writer, left.get())?;
+            writer.token(operator_mark(*operator))?;
+            write_expr(alloc, writer, right.get())?;
+            writer.token(b")")
+        }
+        CExpr::Compare(comparison, left, right) => {
+            writer.tokens(&[b"(", b"int64_t", b")", b"("])?;
+            write_expr(alloc, writer, left.get())?;
+            writer.token(comparison_mark(*comparison))?;
+            write_expr(alloc, writer, right.get())?;
+            writer.token(b")")
+        }
+        CExpr::Negate(operand) => {
+            writer.tokens(&[b"(", b"-"])?;
+            write_expr(alloc, writer, operand.get())?;
+            writer.token(b")")
+        }
     }
 }
 
@@ -186,4 +317,29 @@ fn const_word(signed: bool) -> &'static [u8]
     ensures { result.now ≡ const_word signed }
 {
     if signed { b"INT64_C" } else { b"UINT64_C" }
+}
+
+fn operator_mark(operator: CBinary) -> &'static [u8]
+    ensures { result.now ≡ operator_mark operator }
+{
+    match operator {
+        CBinary::Add => b"+",
+        CBinary::Sub => b"-",
+        CBinary::Mul => b"*",
+        CBinary::Div => b"/",
+        CBinary::Rem => b"%",
+    }
+}
+
+fn comparison_mark(comparison: Comparison) -> &'static [u8]
+    ensures { result.now ≡ comparison_mark comparison }
+{
+    match comparison {
+        Comparison::Less => b"<",
+        Comparison::LessEqual => b"<=",
+        Comparison::Greater => b">",
+        Comparison::GreaterEqual => b">=",
+        Comparison::Equal => b"==",
+        Comparison::NotEqual => b"!=",
+    }
 }

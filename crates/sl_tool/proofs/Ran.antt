@@ -1,19 +1,20 @@
 -- What stepping the tree of a straight program comes to.
-use Rattle.std.proofs.Common.{◌≡◌, ℕ, ◌≤◌, [], map, None, false, refl, sym, ap, ◌∙◌, arith, Fits, w8}
+use Rattle.std.proofs.Common.{◌≡◌, ℕ, ◌≤◌, [], ◌∷◌, map, true, Some, None, refl, sym, ap, ◌∙◌, inl, inr, arith, All, Fits, w8}
+use Rattle.std.proofs.lemmas.List.Elements.{All-nil, All-cons, All-append, All-map}
 use Rattle.std.specs.Prelude.{pos, Ok, Err}
 use Rattle.sl_outside.specs.Sink.{SinkState, Prints}
 use Rattle.sl_run.specs.Run.{Done, TurnsSpent, Stuck, Puts}
 use Rattle.sl_run.specs.Outcome.{Outcome, printed}
 use Rattle.sl_run.proofs.Puts.{printed-puts}
 use Rattle.c_tree.specs.declared.tree.CFile.{CFile}
-use Rattle.c_tree.specs.declared.tree.CFun.{CFun}
+use Rattle.c_tree.specs.declared.tree.CExpr.TheVariants.{Const}
 use Rattle.c_tree.specs.Meaning.{c_run}
 use Rattle.sl_tool.specs.declared.straight.Straight.{Straight}
 use Rattle.sl_tool.specs.declared.stepping.Unfinished.TheVariants as unfinished
 use Rattle.sl_tool.specs.Straight.{IsProgram, ended}
-use Rattle.sl_tool.specs.Tree.{start_of, method_of, tree_of}
+use Rattle.sl_tool.specs.Tree.{main_name, call_of, put_byte, return_value, start_of, method_of, tree_of}
 use Rattle.sl_tool.specs.Answer.{default_turns}
-use Rattle.sl_tool.specs.Stepping.{NoneInline, RanTree}
+use Rattle.sl_tool.specs.Stepping.{IsConstant, IsSimpleStmt, IsSimpleFunction, IsSimple, RanTree}
 use Rattle.sl_tool.proofs.Walking.{run_is}
 use Rattle.sl_tool.proofs.Printing.{prints_same}
 use Rattle.sl_tool.proofs.Tree.Names.{All-two}
@@ -23,10 +24,31 @@ use Rattle.sl_tool.proofs.Tree.Meaning.{tree_means}
 abbrev run : CFile → Outcome
 run tree = c_run tree None [] default_turns
 
--- no function of the tree is inline
-pub none_inline : (program : Straight) → NoneInline (tree_of program)
+-- a constant with a sign
+constant : (number : ℕ) → IsConstant (Const true number)
+constant number = (true, number, refl)
+
+-- a return of one, and an `sl_put` of one
+return_simple : (value : ℕ) → IsSimpleStmt (return_value value)
+return_simple value = inr (inl (Some (Const true value), refl, constant value))
+
+put_simple : (byte : ℕ) → IsSimpleStmt (put_byte byte)
+put_simple byte = inr (inr (Const true byte, refl, constant byte))
+
+-- the statements of the main method
+method_simple : (program : Straight) → All IsSimpleStmt (method_of program 0).body
+method_simple program =
+    All-append IsSimpleStmt (map put_byte (ended program.texts)) (return_value program.value ∷ [])
+    (All-map IsSimpleStmt put_byte (ended program.texts) (λ k byte less. put_simple _))
+    (All-cons IsSimpleStmt (return_value program.value) [] (return_simple program.value) (All-nil IsSimpleStmt))
+
+-- the tree is simple
+pub tree_simple : (program : Straight) → IsSimple (tree_of program)
 unfolding tree_of
-none_inline program = All-two (λ (function : CFun). function.inline ≡ false) (start_of program 0) (method_of program 0) refl refl
+tree_simple program =
+    All-two IsSimpleFunction (start_of program 0) (method_of program 0)
+    (record { called = refl; params = refl; vars = refl; body = All-two IsSimpleStmt (call_of (main_name program)) (return_value program.value) (inl (main_name program, refl)) (return_simple program.value) })
+    (record { called = refl; params = refl; vars = refl; body = method_simple program })
 
 module _ (program : Straight) (ok : IsProgram program) (tree : CFile) (is : tree ≡ tree_of program) where
   -- it is done with the program's value, and has put its texts as lines

@@ -1,5 +1,5 @@
 -- What stepping a C tree comes to: the run that the tree means, with its bytes put on a sink as they come.
-use Rattle.std.specs.Prelude.{◌≡◌, ℕ, ℤ, pos, ◌≤◌, List, ◌++◌, map, Option, Some, None, Result, Ok, Err, Bool, false, not, ◌&&◌, All}
+use Rattle.std.specs.Prelude.{◌≡◌, ◌⊎◌, ℕ, ℤ, pos, ◌≤◌, List, [], ◌++◌, map, Option, Some, None, IfSome, Result, Ok, Err, Bool, false, not, ◌&&◌, All}
 use Rattle.std.specs.Str.{bytes_eq}
 use Rattle.sl_run.specs.Run.{Ending, Done, TurnsSpent, Stuck, Event, Puts, Trace, Went, Over, Act, ◌>>=◌}
 use Rattle.sl_run.specs.Outcome.{Outcome, printed, trace_of}
@@ -8,16 +8,39 @@ use Rattle.c_tree.specs.declared.tree.CFile.{CFile}
 use Rattle.c_tree.specs.declared.tree.CFun.{CFun}
 use Rattle.c_tree.specs.declared.tree.CType.{CType}
 use Rattle.c_tree.specs.declared.tree.CType.TheVariants.{Int, Void}
+use Rattle.c_tree.specs.declared.tree.CExpr.{CExpr}
+use Rattle.c_tree.specs.declared.tree.CExpr.TheVariants.{Const}
+use Rattle.c_tree.specs.declared.tree.CStmt.{CStmt}
+use Rattle.c_tree.specs.declared.tree.CStmt.TheVariants.{Call, Return, Put}
+use Rattle.c_tree.specs.Scope.{scope_of}
 use Rattle.c_tree.specs.Memory.{Memory}
-use Rattle.c_tree.specs.Meaning.{c_run, Flow, Next, Returned, Callees, in_order, given}
+use Rattle.c_tree.specs.Meaning.{c_run, Flow, Next, Returned, Callees, block, given}
 use Rattle.sl_tool.specs.declared.stepping.Unfinished.{Unfinished}
 use Rattle.sl_tool.specs.declared.stepping.Unfinished.TheVariants as unfinished
 use Rattle.sl_tool.specs.declared.stepping.Left.{Left}
 use Rattle.sl_tool.specs.declared.stepping.Left.TheVariants as left
 
--- no function of the tree is inline
-abbrev pub NoneInline : CFile → Type 0
-NoneInline tree = All (λ function. function.inline ≡ false) tree.functions
+-- an expression is a constant
+abbrev pub IsConstant : CExpr → Type 0
+IsConstant e = (signed : Bool) × (number : ℕ) × (e ≡ Const signed number)
+
+-- a statement is a call without target and arguments, a return of nothing or of a constant, or an `sl_put` of a constant
+abbrev pub IsSimpleStmt : CStmt → Type 0
+IsSimpleStmt stmt =
+    ((name : List ℕ) × (stmt ≡ Call None name []))
+    ⊎ ((value : Option CExpr) × (stmt ≡ Return value) × IfSome value IsConstant)
+    ⊎ ((value : CExpr) × (stmt ≡ Put value) × IsConstant value)
+
+-- a function isn't inline, has no parameters and no variables, and its statements are simple
+pub record IsSimpleFunction (function : CFun) : Type 0 where
+  pub called : function.inline ≡ false
+  pub params : function.params ≡ []
+  pub vars : function.vars ≡ []
+  pub body : All IsSimpleStmt function.body
+
+-- each function of the tree is such a one
+abbrev pub IsSimple : CFile → Type 0
+IsSimple tree = All IsSimpleFunction tree.functions
 
 -- whether a function isn't inline and has this name
 abbrev pub is_called : List ℕ → CFun → Bool
@@ -85,5 +108,5 @@ Given Void result = result ≡ Ok None
 Given (Int signed width) result = result ≡ Err unfinished.Stuck
 
 -- a function's body, to its end, but for the end of its frame
-abbrev pub to_its_end : CFun → Callees → Act Memory (Option ℤ)
-to_its_end function call = in_order function.body call >>= given function.result
+abbrev pub to_its_end : CFile → CFun → Callees → Act Memory (Option ℤ)
+to_its_end file function call = block (scope_of file function) function.body call >>= given function.result

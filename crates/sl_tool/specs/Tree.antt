@@ -1,5 +1,5 @@
 -- The C of a straight program: its tree, and the text of that tree.
-use Rattle.std.specs.Prelude.{ℕ, List, [], ◌∷◌, ◌++◌, true, false, Some, map, codes}
+use Rattle.std.specs.Prelude.{ℕ, List, [], ◌∷◌, ◌++◌, true, false, Some, None, map, codes}
 use Rattle.c_tree.specs.declared.tree.CFile.{CFile}
 use Rattle.c_tree.specs.declared.tree.CType.TheVariants.{Int}
 use Rattle.c_tree.specs.declared.tree.CFun.{CFun}
@@ -13,6 +13,10 @@ use Rattle.sl_tool.specs.Straight.{ended}
 -- the C name of the main method: `m_`, and then `NAME.main` with its point as `_d`
 abbrev pub main_name : Straight → List ℕ
 main_name program = codes "m_" ++ program.name ++ codes "_dmain"
+
+-- `NAME();`
+abbrev pub call_of : List ℕ → CStmt
+call_of name = Call None name []
 
 -- `sl_put(INT64_C(BYTE));`
 abbrev pub put_byte : ℕ → CStmt
@@ -28,7 +32,7 @@ function_of name body line = record { name = name; inline = false; result = Int 
 
 -- `sl_main` calls the main method, and returns the program's value
 abbrev pub start_of : Straight → ℕ → CFun
-start_of program line = function_of (codes "sl_main") (Call (main_name program) ∷ return_value program.value ∷ []) line
+start_of program line = function_of (codes "sl_main") (call_of (main_name program) ∷ return_value program.value ∷ []) line
 
 -- the main method puts the bytes of its texts, each text ended by a line feed, and returns its value
 abbrev pub method_of : Straight → ℕ → CFun

@@ -31,7 +31,7 @@ fn build_start(alloc: Global, program: &Straight) -> Result<CFun, Mem>
     requires { IsProgram program.now }
     ensures { IfOk result (λ function. function ≡ start_of program.now 0) }
 {
-    let call = CStmt::Call(method_name(alloc, program)?);
+    let call = CStmt::Call(None, method_name(alloc, program)?, Row::new(alloc));
     let body = pair(alloc, call, return_value(program.value))?;
     Ok(build_function(alloc, start_name(alloc)?, body))
 }

@@ -1,11 +1,13 @@
-// C trees, run statement by statement. Frames cost nothing here: there is no limit of the stack.
-ghost use Rattle.std.specs.Prelude.{◌≡◌, ℕ, pos, None, option_copied};
+// Simple C trees, run statement by statement. Frames cost nothing here: there is no limit of the stack.
+ghost use Rattle.std.specs.Prelude.{◌≡◌, [], ℕ, Bool, pos, All, None, IfSome, option_copied};
 ghost use Rattle.std.specs.List.{find};
 ghost use Rattle.sl_run.specs.Run.{pure};
 ghost use Rattle.sl_outside.specs.Sink.{sink_state};
-ghost use Rattle.c_tree.specs.Meaning.{Callees, Returned, evaluate, meaning, in_order, run_callees, put_value};
+ghost use Rattle.c_tree.specs.declared.tree.CExpr.TheVariants.{Const};
 ghost use Rattle.c_tree.specs.declared.tree.CStmt.TheVariants.{Return};
-ghost use Rattle.sl_tool.specs.Stepping.{NoneInline, RanTree, Stepped, Given, to_its_end, is_called, flow_of, value_of};
+ghost use Rattle.c_tree.specs.Scope.{Scope};
+ghost use Rattle.c_tree.specs.Meaning.{Callees, Returned, meaning, block, run_callees, put_value};
+ghost use Rattle.sl_tool.specs.Stepping.{IsConstant, IsSimpleStmt, IsSimpleFunction, IsSimple, RanTree, Stepped, Given, to_its_end, is_called, flow_of, value_of};
 
 use c_tree::{CExpr, CFile, CFun, CStmt, CType};
 use sl_outside::Sink;
@@ -29,10 +31,10 @@ enum Left {
     Returned(Option<u64>),
 }
 
-/// Runs a tree to the end of its program, in at most so many turns, and gives its exit value. What the program puts goes on
-/// `out`, a byte at a time.
+/// Runs a simple tree to the end of its program, in at most so many turns, and gives its exit value. What the program puts goes
+/// on `out`, a byte at a time.
 pub fn run_tree<K: Sink>(tree: &CFile, mut turns: u64, out: &mut K) -> Result<u64, Unfinished>
-    requires { NoneInline tree.now }
+    requires { IsSimple tree.now }
     ensures { RanTree tree.now turns
         (sink_state (K.held out.old) (K.faults out.old) (K.calls out.old))
         (sink_state (K.held out.new) (K.faults out.new) (K.calls out.new)) result }
@@ -62,8 +64,9 @@ fn run_function<K: Sink>(
     turns: &mut u64,
     out: &mut K,
 ) -> Result<Option<u64>, Unfinished>
-    requires { NoneInline tree.now }
-    ensures { Stepped value_of (to_its_end function.now (run_callees tree.now None)) turns.old turns.new
+    requires tree { IsSimple tree.now }
+    requires function { IsSimpleFunction function.now }
+    ensures { Stepped value_of (to_its_end tree.now function.now (run_callees tree.now None)) turns.old turns.new
         (sink_state (K.held out.old) (K.faults out.old) (K.calls out.old))
         (sink_state (K.held out.new) (K.faults out.new) (K.calls out.new)) result }
 {
@@ -83,7 +86,7 @@ fn none_given(kind: &CType) -> Result<Option<u64>, Unfinished>
     }
 }
 
-/// Runs statements in order, up to a return.
+/// Runs statements in order, up to a return. They name no variables, so their scope can be any.
 #[cycle(stepping)]
 fn run_body<K: Sink>(
     tree: &CFile,
@@ -91,8 +94,9 @@ fn run_body<K: Sink>(
     turns: &mut u64,
     out: &mut K,
 ) -> Result<Left, Unfinished>
-    requires { NoneInline tree.now }
-    ensures { Stepped flow_of (in_order body.now (run_callees tree.now None)) turns.old turns.new
+    requires tree { IsSimple tree.now }
+    requires body { All IsSimpleStmt body.now }
+    ensures { (scope : Scope) → Stepped flow_of (block scope body.now (run_callees tree.now None)) turns.old turns.new
         (sink_state (K.held out.old) (K.faults out.old) (K.calls out.old))
         (sink_state (K.held out.new) (K.faults out.new) (K.calls out.new)) result }
 {
@@ -112,36 +116,42 @@ fn step<K: Sink>(
     turns: &mut u64,
     out: &mut K,
 ) -> Result<Left, Unfinished>
-    requires { NoneInline tree.now }
-    ensures { Stepped flow_of (meaning stmt.now (run_callees tree.now None)) turns.old turns.new
+    requires tree { IsSimple tree.now }
+    requires stmt { IsSimpleStmt stmt.now }
+    ensures { (scope : Scope) → Stepped flow_of (meaning scope stmt.now (run_callees tree.now None)) turns.old turns.new
         (sink_state (K.held out.old) (K.faults out.old) (K.calls out.old))
         (sink_state (K.held out.new) (K.faults out.new) (K.calls out.new)) result }
 {
     match stmt {
-        CStmt::Call(name) => {
+        CStmt::Call(_, name, _) => {
             call(tree, name.as_str(), turns, out)?;
             Ok(Left::Next)
         }
         CStmt::Return(value) => Ok(Left::Returned(returned(value))),
-        CStmt::Put(value) => put_number(evaluate(value), out),
+        CStmt::Put(value) => put_number(number_of(value), out),
+        _ => unreachable!(),
     }
 }
 
 /// The value of a return, where it has one.
 fn returned(value: &Option<CExpr>) -> Option<u64>
-    ensures { (call : Callees) → meaning (Return value.now) call ≡ pure (Returned (value_of result)) }
+    requires { IfSome value.now IsConstant }
+    ensures { (scope : Scope) (call : Callees) → meaning scope (Return value.now) call ≡ pure (Returned (value_of result)) }
 {
     match value {
-        Some(expr) => Some(evaluate(expr)),
+        Some(expr) => Some(number_of(expr)),
         None => None,
     }
 }
 
-/// The value of an expression.
-fn evaluate(expr: &CExpr) -> u64
-    ensures { evaluate expr.now ≡ pure (pos result) }
+/// The number of a constant.
+fn number_of(expr: &CExpr) -> u64
+    requires { IsConstant expr.now }
+    ensures { (signed : Bool) × (expr.now ≡ Const signed result) }
 {
-    let CExpr::Const(_, number) = expr;
+    let CExpr::Const(_, number) = expr else {
+        unreachable!()
+    };
     *number
 }
 
@@ -168,8 +178,8 @@ fn call<K: Sink>(
     turns: &mut u64,
     out: &mut K,
 ) -> Result<Option<u64>, Unfinished>
-    requires { NoneInline tree.now }
-    ensures { Stepped value_of (run_callees tree.now None name.now) turns.old turns.new
+    requires { IsSimple tree.now }
+    ensures { Stepped value_of (run_callees tree.now None name.now []) turns.old turns.new
         (sink_state (K.held out.old) (K.faults out.old) (K.calls out.old))
         (sink_state (K.held out.new) (K.faults out.new) (K.calls out.new)) result }
 {

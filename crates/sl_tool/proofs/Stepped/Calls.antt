@@ -1,5 +1,5 @@
 -- What calls in a run of a tree are.
-use Rattle.std.proofs.Common.{◌≡◌, ℕ, suc, ◌+◌, ◌-◌, ◌<◌, List, [], ◌∷◌, length, Option, Some, None, false, cond, max, refl, sym, ap, ◌∙◌, subst, append-nil, inl, inr, arith}
+use Rattle.std.proofs.Common.{◌≡◌, ℕ, suc, ◌+◌, ◌-◌, ◌<◌, List, [], ◌∷◌, length, Option, Some, None, cond, max, refl, sym, ap, ◌∙◌, subst, append-nil, inl, inr, arith}
 use Rattle.std.specs.Prelude.{Result, Ok, Err, reverse, slice_get, ◌&&◌}
 use Rattle.std.specs.Str.{bytes_eq}
 use Rattle.std.specs.List.{All, find, position, position_or_len}
@@ -16,7 +16,7 @@ use Rattle.c_tree.specs.declared.tree.CFun.{CFun}
 use Rattle.c_tree.specs.Memory.{live}
 use Rattle.c_tree.specs.Bytes.{charge}
 use Rattle.c_tree.specs.Meaning.{stuck, begin, body, begin_inline, inline_callees, number_of, with_some, numbered_call, functions, charge_of, enter, run_callees}
-use Rattle.sl_tool.specs.Stepping.{NoneInline, is_called, IsSpent, Stepped, value_of, to_its_end}
+use Rattle.sl_tool.specs.Stepping.{IsSimpleFunction, IsSimple, is_called, IsSpent, Stepped, value_of, to_its_end}
 use Rattle.sl_tool.proofs.Stepped.Parts.{over_first, stepped_then, stepped_same, stepped_framed}
 use Rattle.sl_tool.specs.declared.stepping.Unfinished.{Unfinished}
 use Rattle.sl_tool.specs.declared.stepping.Unfinished.TheVariants as unfinished
@@ -29,11 +29,11 @@ All-reverse P xs all k d within =
     subst P (sym (get_or-reverse xs k d inside)) (all (length xs - 1 - k) d (omega arith))
 
 -- where no function is inline, no name is that of an inline one
-inline_stuck : (earlier : List CFun) (name : List ℕ) → All (λ function. function.inline ≡ false) earlier → inline_callees earlier name ≡ stuck
-inline_stuck [] name none = refl
-inline_stuck (function ∷ earlier) name none =
-    ap (λ inline. choose (inline && bytes_eq function.name name) (begin_inline function >> body function (inline_callees earlier)) (inline_callees earlier name)) (All-head (λ function. function.inline ≡ false) function earlier none)
-    ∙ inline_stuck earlier name (All-tail (λ function. function.inline ≡ false) function earlier none)
+inline_stuck : (file : CFile) (earlier : List CFun) (name : List ℕ) → All IsSimpleFunction earlier → inline_callees file earlier name [] ≡ stuck
+inline_stuck file [] name simple = refl
+inline_stuck file (function ∷ earlier) name simple =
+    ap (λ inline. choose (inline && bytes_eq function.name name) (begin_inline function [] >> body file function (inline_callees file earlier)) (inline_callees file earlier name [])) (All-head IsSimpleFunction function earlier simple).called
+    ∙ inline_stuck file earlier name (All-tail IsSimpleFunction function earlier simple)
 
 -- The function that was found ------------------------------------------------------------------------------------------
 
@@ -58,27 +58,27 @@ unnamed name functions found =
 
 module _ (file : CFile) (name : List ℕ) where
   -- a call of a name that no function has is stuck, where no function is inline
-  pub no_call : NoneInline file → find (is_called name) file.functions ≡ None → run_callees file None name ≡ stuck
-  no_call none found =
-      ap (numbered_call file (calls (enter file None) (functions file)) name) (unnamed name file.functions found)
-      ∙ inline_stuck (reverse file.functions) name (All-reverse (λ function. function.inline ≡ false) file.functions none)
+  pub no_call : IsSimple file → find (is_called name) file.functions ≡ None → run_callees file None name [] ≡ stuck
+  no_call simple found =
+      ap (λ number. numbered_call file (calls (enter file None) (functions file)) name number []) (unnamed name file.functions found)
+      ∙ inline_stuck file (reverse file.functions) name (All-reverse IsSimpleFunction file.functions simple)
 
   -- a call of a function is entering, and then its body in its frame
-  call_is : (number : ℕ) (function : CFun) → number_of file name ≡ Some number → slice_get file.functions number ≡ Some function → run_callees file None name ≡ (enter file None number [] >> (begin number (charge file function) function [] >> body function (run_callees file None)))
+  call_is : (number : ℕ) (function : CFun) → number_of file name ≡ Some number → slice_get file.functions number ≡ Some function → run_callees file None name [] ≡ (enter file None number [] >> (begin number (charge file function) function [] >> body file function (run_callees file None)))
   call_is number function is at =
-      ap (numbered_call file (calls (enter file None) (functions file)) name) is
+      ap (λ number. numbered_call file (calls (enter file None) (functions file)) name number []) is
       ∙ (calls_are (enter file None) (functions file) (λ number arguments. turn_within_by_takes None (λ memory. live memory + charge_of file (slice_get file.functions number))) (functions_respect file) number []
-      ∙ ap (λ found. enter file None number [] >> with_some found (λ function. begin number (charge file function) function [] >> body function (run_callees file None))) at)
+      ∙ ap (λ found. enter file None number [] >> with_some found (λ function. begin number (charge file function) function [] >> body file function (run_callees file None))) at)
 
   module _ (function : CFun) (found : find (is_called name) file.functions ≡ Some function) (turns rest : ℕ) where
     -- with no turn left, a call is over
-    pub called_spent : (s : SinkState) → turns ≡ 0 → Stepped value_of (run_callees file None name) turns rest s s (Err unfinished.TurnsSpent)
+    pub called_spent : (s : SinkState) → turns ≡ 0 → Stepped value_of (run_callees file None name []) turns rest s s (Err unfinished.TurnsSpent)
     called_spent s none =
         let (number, is, at) = named name file.functions function found in
-        stepped_same value_of (run_callees file None name) (enter file None number [] >> (begin number (charge file function) function [] >> body function (run_callees file None))) turns rest s s (Err unfinished.TurnsSpent) (call_is number function is at) (
+        stepped_same value_of (run_callees file None name []) (enter file None number [] >> (begin number (charge file function) function [] >> body file function (run_callees file None))) turns rest s s (Err unfinished.TurnsSpent) (call_is number function is at) (
           [],
           refl,
-          over_first (enter file None number []) (λ _. begin number (charge file function) function [] >> body function (run_callees file None)) turns [] IsSpent
+          over_first (enter file None number []) (λ _. begin number (charge file function) function [] >> body file function (run_callees file None)) turns [] IsSpent
               (λ t memory e. (TurnsSpent, t, refl, ap (λ left. turn_within_at left None (live memory + charge_of file (slice_get file.functions number)) t memory) (e ∙ none), sym (append-nil t.events))),
         )
 
@@ -99,10 +99,10 @@ module _ (file : CFile) (name : List ℕ) where
     )
 
     -- with one more turn left than its body has, a call does what the body does
-    pub called : (between : ℕ) (a b : SinkState) (result : Result (Option ℕ) Unfinished) → turns ≡ suc between → Stepped value_of (to_its_end function (run_callees file None)) between rest a b result → Stepped value_of (run_callees file None name) turns rest a b result
+    pub called : (between : ℕ) (a b : SinkState) (result : Result (Option ℕ) Unfinished) → turns ≡ suc between → Stepped value_of (to_its_end file function (run_callees file None)) between rest a b result → Stepped value_of (run_callees file None name []) turns rest a b result
     called between a b result more h =
         let (number, is, at) = named name file.functions function found in
-        stepped_same value_of (run_callees file None name) (enter file None number [] >> (begin number (charge file function) function [] >> body function (run_callees file None))) turns rest a b result (call_is number function is at)
-        (stepped_then (λ (x : Unit {0}). x) value_of (enter file None number []) (λ _. begin number (charge file function) function [] >> body function (run_callees file None)) turns between rest a a b tt result
+        stepped_same value_of (run_callees file None name []) (enter file None number [] >> (begin number (charge file function) function [] >> body file function (run_callees file None))) turns rest a b result (call_is number function is at)
+        (stepped_then (λ (x : Unit {0}). x) value_of (enter file None number []) (λ _. begin number (charge file function) function [] >> body file function (run_callees file None)) turns between rest a a b tt result
         (entered number between a more)
-        (stepped_framed value_of (to_its_end function (run_callees file None)) number (charge file function) function between rest a b result h))
+        (stepped_framed value_of (to_its_end file function (run_callees file None)) number (charge file function) function between rest a b result h))

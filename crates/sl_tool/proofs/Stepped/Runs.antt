@@ -68,32 +68,32 @@ module _ (file : CFile) where
   no_start turns s found =
       ran file turns turns s s (Err unfinished.Stuck)
       (stepped_same pos (program file None) stuck turns turns s s (Err unfinished.Stuck)
-      (ap (λ number. with_some number (λ number. with_some (slice_get file.functions number) (λ function. begin_start file None number function >> (body function (run_callees file None) >>= exit_value)))) (unnamed (codes "sl_main") file.functions found))
+      (ap (λ number. with_some number (λ number. with_some (slice_get file.functions number) (λ function. begin_start file None number function >> (body file function (run_callees file None) >>= exit_value)))) (unnamed (codes "sl_main") file.functions found))
       (stepped_stuck pos turns turns s))
 
   module _ (function : CFun) (number : ℕ) where
     -- the frame of `sl_main`, and its body in it
     abbrev start_frame : Act Memory (Option ℤ)
-    start_frame = begin number (charge file function) function [] >> body function (run_callees file None)
+    start_frame = begin number (charge file function) function [] >> body file function (run_callees file None)
 
     -- the whole program, where `sl_main` was found
     program_is : number_of file (codes "sl_main") ≡ Some number → slice_get file.functions number ≡ Some function → program file None ≡ (keep_within None (charge file function) >> (start_frame >>= exit_value))
     program_is is at =
-        ap (λ number. with_some number (λ number. with_some (slice_get file.functions number) (λ function. begin_start file None number function >> (body function (run_callees file None) >>= exit_value)))) is
-        ∙ (ap (λ found. with_some found (λ function. begin_start file None number function >> (body function (run_callees file None) >>= exit_value))) at
-        ∙ (bind_assoc (keep_within None (charge file function)) (λ _. begin number (charge file function) function []) (λ _. body function (run_callees file None) >>= exit_value)
-        ∙ ap (λ go. keep_within None (charge file function) >> go) (sym (bind_assoc (begin number (charge file function) function []) (λ _. body function (run_callees file None)) exit_value))))
+        ap (λ number. with_some number (λ number. with_some (slice_get file.functions number) (λ function. begin_start file None number function >> (body file function (run_callees file None) >>= exit_value)))) is
+        ∙ (ap (λ found. with_some found (λ function. begin_start file None number function >> (body file function (run_callees file None) >>= exit_value))) at
+        ∙ (bind_assoc (keep_within None (charge file function)) (λ _. begin number (charge file function) function []) (λ _. body file function (run_callees file None) >>= exit_value)
+        ∙ ap (λ go. keep_within None (charge file function) >> go) (sym (bind_assoc (begin number (charge file function) function []) (λ _. body file function (run_callees file None)) exit_value))))
 
     -- no limit is passed
     kept : (turns : ℕ) (s : SinkState) → Stepped (λ (x : Unit {0}). x) (keep_within None (charge file function)) turns turns s s (Ok tt)
     kept turns s = (omega arith, ([], refl, λ t memory e. (max t.peak (charge file function), λ k. Went tt (record t { events = sym (append-nil t.events) k; left = e k; peak = max t.peak (charge file function) }) memory)))
 
   -- a tree whose `sl_main` did this ran so
-  pub started : (function : CFun) → find (is_called (codes "sl_main")) file.functions ≡ Some function → (turns rest : ℕ) (a b : SinkState) (given : Result (Option ℕ) Unfinished) → Stepped value_of (to_its_end function (run_callees file None)) turns rest a b given → RanTree file turns a b (exit_of given)
+  pub started : (function : CFun) → find (is_called (codes "sl_main")) file.functions ≡ Some function → (turns rest : ℕ) (a b : SinkState) (given : Result (Option ℕ) Unfinished) → Stepped value_of (to_its_end file function (run_callees file None)) turns rest a b given → RanTree file turns a b (exit_of given)
   started function found turns rest a b given h =
       let (number, is, at) = named (codes "sl_main") file.functions function found in
       ran file turns rest a b (exit_of given)
       (stepped_same pos (program file None) (keep_within None (charge file function) >> (start_frame function number >>= exit_value)) turns rest a b (exit_of given) (program_is function number is at)
       (stepped_then (λ (x : Unit {0}). x) pos (keep_within None (charge file function)) (λ _. start_frame function number >>= exit_value) turns turns rest a a b tt (exit_of given) (kept function number turns a)
       (exits (start_frame function number) turns rest a b given
-      (stepped_framed value_of (to_its_end function (run_callees file None)) number (charge file function) function turns rest a b given h))))
+      (stepped_framed value_of (to_its_end file function (run_callees file None)) number (charge file function) function turns rest a b given h))))

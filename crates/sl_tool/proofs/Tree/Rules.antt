@@ -1,20 +1,28 @@
 -- The tree of a straight program keeps the rules of the subset.
-use Rattle.std.proofs.Common.{◌≡◌, ℕ, ◌+◌, List, [], ◌∷◌, ◌++◌, map, true, false, cond, Some, refl, sym, ap, subst, inl, inr, ⊎_elim, arith, All, Contains, codes, bytes_eq}
-use Rattle.std.specs.List.{count_by, IsDistinct}
-use Rattle.std.proofs.lemmas.List.Elements.{All-nil, All-cons, All-append, All-map, All-contains}
+use Rattle.std.proofs.Common.{◌≡◌, ℕ, ◌+◌, List, [], ◌∷◌, ◌++◌, map, Bool, true, false, cond, Option, Some, None, refl, sym, ap, ◌∙◌, subst, inl, inr, ⊎_elim, arith, All, Contains, codes, bytes_eq}
+use Rattle.std.specs.List.{count_by, flat_map, IsDistinct}
+use Rattle.std.proofs.lemmas.List.{map-append}
+use Rattle.std.proofs.lemmas.List.Elements.{All-nil, All-cons, All-head, All-tail, All-append, All-map, All-contains}
+use Rattle.std.proofs.lemmas.Option.{none-some}
 use Rattle.std.proofs.lemmas.Slice.Eq.{bytes_eq-Decides}
 use Rattle.c_tree.specs.declared.tree.CFile.{CFile}
 use Rattle.c_tree.specs.declared.tree.CFun.{CFun}
 use Rattle.c_tree.specs.declared.tree.CStmt.{CStmt}
-use Rattle.c_tree.specs.declared.tree.CStmt.TheVariants.{Call, Return, Put}
+use Rattle.c_tree.specs.declared.tree.CPlace.{CPlace}
+use Rattle.c_tree.specs.declared.tree.CPlace.TheVariants.{Name}
 use Rattle.c_tree.specs.declared.tree.CType.TheVariants.{Int}
+use Rattle.c_tree.specs.declared.tree.CExpr.{CExpr}
 use Rattle.c_tree.specs.declared.tree.CExpr.TheVariants.{Const}
 use Rattle.c_tree.specs.Words.{reserved_words}
-use Rattle.c_tree.specs.Rules.{var_names, fun_names, NamesClash, BreaksNames, IsDeclared, HasWrongValue, AreAlike, BreaksPrototypes, BreaksInside, BreaksOutside, Breaks, EndsByReturn, KeepsRules}
+use Rattle.c_tree.specs.Parts.{Leaf, Constant, Reads, Action, Calls, Tests, Returns, Puts, actions, actions_in}
+use Rattle.c_tree.specs.Bytes.{called_by}
+use Rattle.c_tree.specs.Scope.{Scope, scope_of}
+use Rattle.c_tree.specs.Rules.{var_names, fun_names, NamesClash, BreaksNames, IsDeclared, NamesRead, NamesVariable, typed, HasExpr, HasOtherType, HasWrongValue, ArgumentsMisfit, last_is, ends_function, AreAlike, BreaksPrototypes, BreaksInside, BreaksOutside, Breaks, KeepsRules}
 use Rattle.sl_tool.specs.declared.straight.Straight.{Straight}
 use Rattle.sl_tool.specs.Straight.{IsProgram, ended}
-use Rattle.sl_tool.specs.Tree.{main_name, put_byte, return_value, start_of, method_of, proto_of, tree_at_lines}
+use Rattle.sl_tool.specs.Tree.{main_name, call_of, put_byte, return_value, start_of, method_of, proto_of, tree_at_lines}
 use Rattle.sl_tool.proofs.Tree.Names.{All-two, start_is_free, main_is_free}
+use Rattle.c_tree.proofs.Variants.{leaves_of_const, typed_of_const, actions_of_call, actions_of_return, ends_of_return, actions_of_put}
 
 -- no element is in the empty list
 in_none : {X : Type 0} (x : X) → ¬ Contains [] x
@@ -30,29 +38,111 @@ none_clash : ¬ NamesClash []
 unfolding IsDistinct
 none_clash = no_clash [] tt (All-nil (λ name. ¬ Contains reserved_words name))
 
--- a statement calls no function but a declared one
-abbrev CallsDeclared : CFile → CFun → CStmt → Type 0
-CallsDeclared file function (Call name) = IsDeclared file function name
-CallsDeclared file function (Return value) = Unit {0}
-CallsDeclared file function (Put value) = Unit {0}
+-- what holds of all parts of each element holds of all parts
+All-flat_map : {X Y : Type 0} (P : Y → Type 0) (f : X → List Y) (xs : List X) → All (λ x. All P (f x)) xs → All P (flat_map f xs)
+All-flat_map P f [] all = All-nil P
+All-flat_map P f (x ∷ xs) all = All-append P (f x) (flat_map f xs) (All-head (λ x. All P (f x)) x xs all) (All-flat_map P f xs (All-tail (λ x. All P (f x)) x xs all))
 
--- a statement keeps the rules in a function
-abbrev KeepsIn : CFile → CFun → CStmt → Type 0
-KeepsIn file function stmt = CallsDeclared file function stmt × ¬ HasWrongValue function stmt
+-- where the last one is so, the last is so
+last_so : (others : List Bool) → last_is (others ++ true ∷ []) ≡ true
+last_so [] = refl
+last_so (first ∷ []) = refl
+last_so (first ∷ second ∷ others) = last_so (second ∷ others)
 
--- a function without parameters and variables that isn't inline, ends by a return, and whose statements keep the rules, keeps
--- them, where no function has parameters
-function_keeps : (file : CFile) (function : CFun) → All (λ callee. callee.params ≡ []) file.functions → function.params ++ function.vars ≡ [] → function.inline ≡ false → EndsByReturn function.body → All (KeepsIn file function) function.body → (rule : ℕ) → ¬ BreaksInside file function rule
-function_keeps file function none locals called ends keep rule (inl h) = none_clash (subst (λ vars. NamesClash (var_names vars)) locals h.1)
-function_keeps file function none locals called ends keep rule (inr (inl h)) =
-    ⊎_elim (λ none. none (All-contains (KeepsIn file function) function.body (Call h.1.0) keep h.1.1).0)
-    (λ hidden. in_none h.1.0 (subst (λ vars. Contains (var_names vars) h.1.0) locals hidden)) h.1.2
-function_keeps file function none locals called ends keep rule (inr (inr (inl h))) =
-    (All-contains (KeepsIn file function) function.body h.1.0 keep h.1.1).1 h.1.2
-function_keeps file function none locals called ends keep rule (inr (inr (inr (inl h)))) =
-    h.1.3 (All-contains (λ callee. callee.params ≡ []) file.functions h.1.0 none h.1.1)
-function_keeps file function none locals called ends keep rule (inr (inr (inr (inr (inl h))))) = let inline = h.1.0 in cc
-function_keeps file function none locals called ends keep rule (inr (inr (inr (inr (inr h))))) = h.1.1 ends
+-- a body that ends by a return ends so
+body_ends : (stmts : List CStmt) (value : ℕ) → last_is (map ends_function (stmts ++ return_value value ∷ [])) ≡ true
+body_ends stmts value =
+    ap last_is (map-append ends_function stmts (return_value value ∷ []))
+    ∙ (ap (λ ends. last_is (map ends_function stmts ++ ends ∷ [])) (ends_of_return (Some (Const true value)))
+    ∙ last_so (map ends_function stmts))
+
+-- a constant reads no name
+reads_none : (number : ℕ) (name : List ℕ) → ¬ NamesRead (Const true number) name
+reads_none number name reads =
+    All-contains IsNoRead (Constant true number ∷ []) (Reads (Name name)) (All-cons IsNoRead (Constant true number) [] tt (All-nil IsNoRead))
+    (subst (λ found. Contains found (Reads (Name name))) (leaves_of_const true number) reads)
+  where
+    IsNoRead : Leaf → Type 0
+    IsNoRead (Constant signed number) = Unit {0}
+    IsNoRead (Reads place) = ⊥
+
+-- and its type is `int64_t`
+is_int64 : (scope : Scope) (number : ℕ) → ¬ HasOtherType scope (Const true number) (Int true 64)
+is_int64 scope number (other, is, differs) = let same : Some (Int true 64) ≡ Some other = sym (ap (λ known. known.type) (typed_of_const scope true number)) ∙ is in differs (cc same)
+
+-- An action keeps the rules in a function whose result is an `int64_t`, where no function has parameters: it calls a declared
+-- function without target and arguments, or returns or puts a constant with a sign
+data KeepsIn (file : CFile) (function : CFun) : Action → Type 0 where
+  CallsDeclared : (name : List ℕ) → IsDeclared file function name → KeepsIn file function (Calls None name [])
+  ReturnsConstant : (number : ℕ) → KeepsIn file function (Returns (Some (Const true number)))
+  PutsConstant : (number : ℕ) → KeepsIn file function (Puts (Const true number))
+
+module _ (file : CFile) (function : CFun) where
+  -- it calls declared functions
+  calls_declared : (action : Action) → KeepsIn file function action → All (IsDeclared file function) (called_by action)
+  calls_declared action (CallsDeclared name declared) = All-cons (IsDeclared file function) name [] declared (All-nil (IsDeclared file function))
+  calls_declared action (ReturnsConstant number) = All-nil (IsDeclared file function)
+  calls_declared action (PutsConstant number) = All-nil (IsDeclared file function)
+
+  -- it names no variable
+  names_none : (action : Action) (name : List ℕ) → KeepsIn file function action → ¬ NamesVariable action name
+  names_none action name (CallsDeclared callee declared) (inl at) = none-some (Name name) at
+  names_none action name (CallsDeclared callee declared) (inr (e, among, reads)) = in_none e among
+  names_none action name (ReturnsConstant number) (e, at, reads) = reads_none number name (subst (λ e. NamesRead e name) (sym (cc at)) reads)
+  names_none action name (PutsConstant number) reads = reads_none number name reads
+
+  -- its operands fit
+  expr_fits : (action : Action) (e : CExpr) → KeepsIn file function action → HasExpr action e → (typed (scope_of file function) e).fits ≡ true
+  expr_fits action e (CallsDeclared name declared) among = absurd (in_none e among)
+  expr_fits action e (ReturnsConstant number) at =
+      ap (λ e. (typed (scope_of file function) e).fits) (sym (cc at)) ∙ ap (λ known. known.fits) (typed_of_const (scope_of file function) true number)
+  expr_fits action e (PutsConstant number) at =
+      ap (λ e. (typed (scope_of file function) e).fits) (sym at) ∙ ap (λ known. known.fits) (typed_of_const (scope_of file function) true number)
+
+  -- it has no wrong value
+  right_value : function.result ≡ Int true 64 → (action : Action) → KeepsIn file function action → ¬ HasWrongValue (scope_of file function) function action
+  right_value gives action (CallsDeclared name declared) wrong = wrong
+  right_value gives action (ReturnsConstant number) wrong = is_int64 (scope_of file function) number (subst (HasOtherType (scope_of file function) (Const true number)) gives wrong)
+  right_value gives action (PutsConstant number) wrong = is_int64 (scope_of file function) number wrong
+
+  -- its arguments are none, and fit
+  fits_none : (callee : CFun) (target : Option CPlace) (arguments : List CExpr) → callee.params ≡ [] → KeepsIn file function (Calls target callee.name arguments) → ¬ ArgumentsMisfit (scope_of file function) arguments callee.params
+  fits_none callee target arguments none (CallsDeclared name declared) misfit = subst (ArgumentsMisfit (scope_of file function) []) none misfit
+
+  -- it has no target, and tests nothing
+  no_target : (place : CPlace) (name : List ℕ) (arguments : List CExpr) → ¬ KeepsIn file function (Calls (Some place) name arguments)
+  no_target place name arguments keeps = elim keeps [ ]
+
+  no_test : (test : CExpr) → ¬ KeepsIn file function (Tests test)
+  no_test test keeps = elim keeps [ ]
+
+  -- a function without parameters and variables that isn't inline, ends by a return, and whose actions keep the rules, keeps them,
+  -- where no function has parameters
+  function_keeps : All (λ callee. callee.params ≡ []) file.functions → function.params ++ function.vars ≡ [] → function.inline ≡ false → function.result ≡ Int true 64 → last_is (map ends_function function.body) ≡ true → All (λ stmt. All (KeepsIn file function) (actions stmt)) function.body → (rule : ℕ) → ¬ BreaksInside file function rule
+  function_keeps none locals called gives ends keep rule = broken
+    where
+      kept : All (KeepsIn file function) (actions_in function.body)
+      kept = All-flat_map (KeepsIn file function) actions function.body keep
+
+      keeps : (action : Action) → Contains (actions_in function.body) action → KeepsIn file function action
+      keeps action among = All-contains (KeepsIn file function) (actions_in function.body) action kept among
+
+      declared : All (IsDeclared file function) (flat_map called_by (actions_in function.body))
+      declared = All-flat_map (IsDeclared file function) called_by (actions_in function.body) (λ k d less. calls_declared _ (kept k d less))
+
+      broken : ¬ BreaksInside file function rule
+      broken (inl (_, clash)) = none_clash (subst (λ vars. NamesClash (var_names vars)) locals clash)
+      broken (inr (inl (_, inl (name, among, inl undeclared)))) = undeclared (All-contains (IsDeclared file function) _ name declared among)
+      broken (inr (inl (_, inl (name, among, inr hidden)))) = in_none name (subst (λ vars. Contains (var_names vars) name) locals hidden)
+      broken (inr (inl (_, inr (action, name, among, names, none)))) = names_none action name (keeps action among) names
+      broken (inr (inr (inl (_, (action, e, among, has, misfits))))) = let fits = expr_fits action e (keeps action among) has in cc
+      broken (inr (inr (inr (inl (_, (action, among, wrong)))))) = right_value gives action (keeps action among) wrong
+      broken (inr (inr (inr (inr (inl (_, (callee, target, arguments, (found, among), misfit))))))) =
+          fits_none callee target arguments (All-contains (λ callee. callee.params ≡ []) file.functions callee none found) (keeps (Calls target callee.name arguments) among) misfit
+      broken (inr (inr (inr (inr (inr (inl (_, (callee, place, arguments, (found, among), wrong)))))))) = no_target place callee.name arguments (keeps (Calls (Some place) callee.name arguments) among)
+      broken (inr (inr (inr (inr (inr (inr (inl (_, (test, other, among, is, wrong))))))))) = no_test test (keeps (Tests test) among)
+      broken (inr (inr (inr (inr (inr (inr (inr (inl (_, (inline, calls)))))))))) = cc
+      broken (inr (inr (inr (inr (inr (inr (inr (inr (_, (result, falls)))))))))) = cc
 
 module _ (a b c d : ℕ) (program : Straight) where
   -- the tree, and its two functions
@@ -117,24 +207,35 @@ module _ (a b c d : ℕ) (program : Straight) where
   no_params : All (λ callee. callee.params ≡ []) file.functions
   no_params = All-two (λ callee. callee.params ≡ []) start method refl refl
 
-  -- to return the value keeps the rules
-  return_keeps : (function : CFun) → function.result ≡ Int true 64 → All (KeepsIn file function) (return_value program.value ∷ [])
-  return_keeps function gives =
-      All-cons (KeepsIn file function) (return_value program.value) [] (tt, λ wrong. wrong (sym gives)) (All-nil (KeepsIn file function))
+  -- the statements keep the rules
+  abbrev Keep : CFun → CStmt → Type 0
+  Keep function stmt = All (KeepsIn file function) (actions stmt)
+
+  one_keeps : (function : CFun) (stmt : CStmt) (action : Action) → actions stmt ≡ action ∷ [] → KeepsIn file function action → Keep function stmt
+  one_keeps function stmt action is keeps = subst (All (KeepsIn file function)) (sym is) (All-cons (KeepsIn file function) action [] keeps (All-nil (KeepsIn file function)))
+
+  return_keeps : (function : CFun) → Keep function (return_value program.value)
+  return_keeps function =
+      one_keeps function (return_value program.value) (Returns (Some (Const true program.value))) (actions_of_return (Some (Const true program.value))) (ReturnsConstant program.value)
+
+  put_keeps : (function : CFun) (byte : ℕ) → Keep function (put_byte byte)
+  put_keeps function byte = one_keeps function (put_byte byte) (Puts (Const true byte)) (actions_of_put (Const true byte)) (PutsConstant byte)
 
   -- no rule is broken in `sl_main`
   start_keeps : (rule : ℕ) → ¬ BreaksInside file start rule
   start_keeps =
-      function_keeps file start no_params refl refl (Call (main_name program) ∷ [], Some (Const true program.value), refl)
-      (All-cons (KeepsIn file start) (Call (main_name program)) (return_value program.value ∷ []) (inl (1, omega arith, refl), λ wrong. wrong) (return_keeps start refl))
+      function_keeps file start no_params refl refl refl (body_ends (call_of (main_name program) ∷ []) program.value)
+      (All-two (Keep start) (call_of (main_name program)) (return_value program.value)
+      (one_keeps start (call_of (main_name program)) (Calls None (main_name program) []) (actions_of_call None (main_name program) []) (CallsDeclared (main_name program) (inl (1, omega arith, refl))))
+      (return_keeps start))
 
   -- nor in the main method
   method_keeps : (rule : ℕ) → ¬ BreaksInside file method rule
   method_keeps =
-      function_keeps file method no_params refl refl (map put_byte (ended program.texts), Some (Const true program.value), refl)
-      (All-append (KeepsIn file method) (map put_byte (ended program.texts)) (return_value program.value ∷ [])
-      (All-map (KeepsIn file method) put_byte (ended program.texts) (λ k byte less. (tt, λ wrong. wrong refl)))
-      (return_keeps method refl))
+      function_keeps file method no_params refl refl refl (body_ends (map put_byte (ended program.texts)) program.value)
+      (All-append (Keep method) (map put_byte (ended program.texts)) (return_value program.value ∷ [])
+      (All-map (Keep method) put_byte (ended program.texts) (λ k byte less. put_keeps method _))
+      (All-cons (Keep method) (return_value program.value) [] (return_keeps method) (All-nil (Keep method))))
 
   -- nor in any other, since these are all
   inside_keeps : All (λ function. (rule : ℕ) → ¬ BreaksInside file function rule) file.functions

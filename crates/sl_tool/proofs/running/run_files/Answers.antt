@@ -2,16 +2,16 @@ use Rattle.std.proofs.Common.{sym, subst}
 use Rattle.sl_outside.specs.Folder.{folder_state}
 use Rattle.sl_outside.specs.Sink.{sink_state}
 use Rattle.sl_tool.specs.WordsReading.{names_seen}
-use Rattle.sl_tool.specs.Stepping.{NoneInline}
+use Rattle.sl_tool.specs.Stepping.{IsSimple}
 use Rattle.sl_tool.proofs.Asking.{program_is_ok, run_stopped}
-use Rattle.sl_tool.proofs.Ran.{none_inline, small_value, ran_value, ran_prints, ran_stopped, ran_spent, ran_stuck}
+use Rattle.sl_tool.proofs.Ran.{tree_simple, small_value, ran_value, ran_prints, ran_stopped, ran_spent, ran_stuck}
 use Rattle.sl_tool.proofs.running.run_files.Goals as goal
 
 pub build_tree-requires : goal.build_tree-requires
 build_tree-requires g c = (program_is_ok c.in_ok-program.ensures.read)
 
 pub run_tree-requires : goal.run_tree-requires
-run_tree-requires g c = subst NoneInline (sym c.in_ok-tree.ensures) (none_inline c.in_ok-program.program)
+run_tree-requires g c = subst IsSimple (sym c.in_ok-tree.ensures) (tree_simple c.in_ok-program.program)
 
 -- the exit value is that of the program, at most 63
 pub overflow_cast-result : goal.overflow_cast-result

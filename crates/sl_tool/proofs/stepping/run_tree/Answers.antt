@@ -1,8 +1,12 @@
-use Rattle.std.proofs.Common.{Some, None, sym}
+use Rattle.std.proofs.Common.{Some, None, sym, codes}
 use Rattle.std.specs.Prelude.{Ok, Err}
 use Rattle.sl_outside.specs.Sink.{SinkState, sink_state}
+use Rattle.sl_tool.proofs.Stepped.Simple.{found_simple}
 use Rattle.sl_tool.proofs.Stepped.Runs.{ran_failure, no_start, started}
 use Rattle.sl_tool.proofs.stepping.run_tree.Goals as goal
+
+pub run_function-requires-clause-function : goal.run_function-requires-clause-function
+run_function-requires-clause-function g c = found_simple c.args.tree.now (codes "sl_main") c.in-Some.start.now (assumption c.requires) (sym c.in-Some.ensures)
 
 pub returns-in_default : goal.returns-in_default
 returns-in_default g c =
