@@ -1,0 +1,38 @@
+-- What calls of the inline functions give.
+use Rattle.std.specs.Prelude.{◌≡◌, ◌≢◌, ℤ, pos, ◌+ℤ◌, ◌-ℤ◌, ◌*ℤ◌, int_div, int_rem, IsTrue, List, [], ◌∷◌, ◌++◌, None, Some, map, codes}
+use Rattle.std.specs.Fmt.{signed_decimal}
+use Rattle.sl_run.specs.Run.{Puts, Trace, Went, ◌>>◌}
+use Rattle.c_tree.specs.declared.tree.CFile.{CFile}
+use Rattle.c_tree.specs.declared.tree.CFun.{CFun}
+use Rattle.c_tree.specs.Memory.{Tree, Memory, Number}
+use Rattle.c_tree.specs.Meaning.{Callees, is_int64, truth, begin_inline, inline_callees, body}
+use Rattle.c_helpers.specs.Functions.{sum_fits, difference_fits, product_fits, quotient_fits, remainder, digit, print}
+
+-- A call on these numbers gives a value, whatever calls in it would do. It takes no turn, puts nothing, and leaves memory as it was
+abbrev pub Gives : CFile → CFun → List ℤ → ℤ → Type 0
+Gives file function numbers value =
+    (call : Callees) (t : Trace) (memory : Memory)
+    → (begin_inline function (map Number numbers) >> body file function call) t memory ≡ Went (Some value) t memory
+
+-- calls by the name `sl_digit` are calls of that function
+pub record Reaches (file : CFile) (call : Callees) : Type 0 where
+  pub deeper : Callees
+  pub reaches : (args : List Tree) → call (codes "sl_digit") args ≡ (begin_inline digit args >> body file digit deeper)
+
+-- A call of `sl_print` on a number puts it in decimal, where `sl_digit` is called by its name. It takes no turn, and leaves memory
+-- as it was
+abbrev pub Prints : CFile → ℤ → Type 0
+Prints file a =
+    (call : Callees) (t : Trace) (memory : Memory) → Reaches file call
+    → (begin_inline print (Number a ∷ []) >> body file print call) t memory ≡ Went None (record t { events = t.events ++ map Puts (signed_decimal a) }) memory
+
+-- what calls give on any two numbers of 64 bits, in any file
+pub record Laws : Type 0 where
+  pub sum : (file : CFile) (a b : ℤ) → IsTrue (is_int64 a) → IsTrue (is_int64 b) → Gives file sum_fits (a ∷ b ∷ []) (truth (is_int64 (a +ℤ b)))
+  pub difference : (file : CFile) (a b : ℤ) → IsTrue (is_int64 a) → IsTrue (is_int64 b) → Gives file difference_fits (a ∷ b ∷ []) (truth (is_int64 (a -ℤ b)))
+  pub product : (file : CFile) (a b : ℤ) → IsTrue (is_int64 a) → IsTrue (is_int64 b) → Gives file product_fits (a ∷ b ∷ []) (truth (is_int64 (a *ℤ b)))
+  pub quotient : (file : CFile) (a b : ℤ) → IsTrue (is_int64 a) → IsTrue (is_int64 b) → b ≢ pos 0 → Gives file quotient_fits (a ∷ b ∷ []) (truth (is_int64 (int_div a b)))
+  pub rest : (file : CFile) (a b : ℤ) → IsTrue (is_int64 a) → IsTrue (is_int64 b) → b ≢ pos 0 → Gives file remainder (a ∷ b ∷ []) (int_rem a b)
+  pub print : (file : CFile) (a : ℤ) → IsTrue (is_int64 a) → Prints file a
+  -- behind `sl_digit` it is called by its name
+  pub reached : (file : CFile) (earlier : List CFun) → Reaches file (inline_callees file (digit ∷ earlier))
