@@ -1,0 +1,11 @@
+pub mod LastOf
+pub mod Lookups
+pub mod Walks
+pub mod Anys
+pub mod Clashes
+pub mod Leasts
+pub mod Holds
+pub mod Decided
+pub mod Rooms
+pub mod Outside
+pub mod Firsts

@@ -1,0 +1,45 @@
+// Whether a body ends with a return.
+ghost use Rattle.std.specs.Prelude.{◌≡◌, map, not, ◌&&◌};
+ghost use Rattle.c_tree.specs.Rules.{ends_function, last_is};
+ghost use Rattle.c_rules.specs.Types.{is_void};
+
+use c_tree::{CFun, CStmt, CType};
+
+/// Rule 21: a function with a result can come to its end without a return.
+pub fn breaks_end(function: &CFun) -> bool
+    ensures { result ≡ (not (is_void function.now.result) && not (last_is (map ends_function function.now.body))) }
+{
+    !matches!(function.result, CType::Void) && !block_ends(function.body.as_slice())
+}
+
+/// Whether nothing comes behind the last statement of a block.
+#[cycle(ending)]
+#[tactic(auto, using(crate::proofs::LastOf::ends_all))]
+fn block_ends(block: &[CStmt]) -> bool
+    ensures { result ≡ last_is (map ends_function block.now) }
+{
+    if let Some((last, _)) = block.split_last() {
+        ends(last)
+    } else {
+        false
+    }
+}
+
+/// Whether nothing comes behind a statement.
+#[cycle(ending)]
+#[tactic(auto, using(crate::proofs::LastOf::ends_all))]
+fn ends(stmt: &CStmt) -> bool
+    ensures { result ≡ ends_function stmt.now }
+{
+    match stmt {
+        CStmt::Return(_) => true,
+        CStmt::Halt(_, _, _) => true,
+        CStmt::If(_, chosen, other) => match other {
+            None => false,
+            Some(other) => block_ends(chosen.as_slice()) && block_ends(other.as_slice()),
+        },
+        CStmt::Assign(_, _) => false,
+        CStmt::Call(_, _, _) => false,
+        CStmt::Put(_) => false,
+    }
+}
