@@ -1,5 +1,5 @@
 -- Which cores are sound: their numbers are in range, their types fit, they don't nest too deep, and they are never stuck.
-use Rattle.std.specs.Prelude.{◌≡◌, ◌≢◌, ℕ, ◌+◌, ℤ, pos, neg_ℤ, ◌-◌, ◌^◌, ◌≤◌, ◌≤ℤ◌, int_le, List, Bool, true, false, not, ◌&&◌, ◌==◌, max, map, is_some, Option, None, Some, slice_get, if◌then◌else◌, All}
+use Rattle.std.specs.Prelude.{◌≡◌, ◌≢◌, ◌⊎◌, ℕ, ◌+◌, ℤ, pos, neg_ℤ, ◌-◌, ◌^◌, ◌≤◌, ◌≤ℤ◌, int_le, List, Bool, true, false, not, ◌&&◌, ◌==◌, max, map, is_some, Option, None, Some, slice_get, if◌then◌else◌, All}
 use Rattle.std.specs.List.{list_all, fold, IsDistinct}
 use Rattle.std.specs.Option.{option_and_then}
 use Rattle.std.specs.Str.{bytes_eq}
@@ -122,9 +122,10 @@ stmt_depth s = fold-CoreStmt ℕ stmt_depth_step s
 
 -- Cores ---------------------------------------------------------------------------------------------------------------
 
--- an integer type within 64 bits that doesn't wrap
+-- an integer type with a number, that doesn't wrap, and whose numbers one integer type of C has: that of 64 bits with a sign or
+-- that without
 abbrev pub IsType : CoreType → Type 0
-IsType (Int kind) = IsRange kind
+IsType (Int kind) = IsRange kind × (kind.lo ≤ℤ kind.hi) × ((pos 0 ≤ℤ kind.lo) ⊎ (kind.hi ≤ℤ pos (2 ^ 63 - 1)))
 
 -- the exit value is a number of 64 bits with a sign
 abbrev pub IsExitType : CoreType → Type 0
