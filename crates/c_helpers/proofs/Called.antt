@@ -1,16 +1,20 @@
 -- What calls of the inline functions give.
-use Rattle.std.proofs.Common.{◌≡◌, ◌≢◌, List, [], ◌∷◌, true, sym, ap, subst, ◌∙◌, arith, codes}
-use Rattle.std.specs.Prelude.{ℤ, pos, negsuc, ◌+ℤ◌, ◌-ℤ◌, ◌*ℤ◌, int_div, int_rem, int_le, int_lt, ◌≤ℤ◌, ◌<ℤ◌}
+use Rattle.std.proofs.Common.{◌≡◌, ◌≢◌, List, [], ◌∷◌, true, refl, sym, ap, subst, ◌∙◌, arith, codes}
+use Rattle.std.specs.List.{IsDistinct}
+use Rattle.std.specs.Str.{bytes_eq}
+use Rattle.std.proofs.lemmas.List.Elements.{All-from_recursion}
+use Rattle.std.specs.Prelude.{All, map, ℤ, pos, negsuc, ◌+ℤ◌, ◌-ℤ◌, ◌*ℤ◌, int_div, int_rem, int_le, int_lt, ◌≤ℤ◌, ◌<ℤ◌}
 use Rattle.std.proofs.lemmas.Int.{ints}
 use Rattle.sl_num.specs.declared.comparing.Comparison.TheVariants.{Less, LessEqual, Equal}
 use Rattle.sl_num.specs.Comparing.{holds}
 use Rattle.c_tree.specs.declared.tree.CFile.{CFile}
+use Rattle.c_tree.specs.declared.tree.CFun.{CFun}
 use Rattle.c_tree.specs.declared.tree.CExpr.{CExpr}
 use Rattle.c_tree.specs.declared.tree.CExpr.TheVariants.{Binary, Compare}
 use Rattle.c_tree.specs.declared.tree.CBinary.TheVariants.{Add, Sub, Div, Rem}
 use Rattle.c_tree.specs.declared.tree.CStmt.{CStmt}
 use Rattle.c_tree.specs.Meaning.{is_int64, truth}
-use Rattle.c_helpers.specs.Functions.{constant, named, greatest, least, minus_one, give, if_else, sum_fits, difference_fits, product_fits, quotient_fits, remainder}
+use Rattle.c_helpers.specs.Functions.{constant, named, greatest, least, minus_one, give, if_else, sum_fits, difference_fits, product_fits, quotient_fits, remainder, helper_functions}
 use Rattle.c_helpers.specs.Laws.{Gives, Laws}
 use Rattle.c_helpers.proofs.Frame.{scope_in, two, Yields, Returns, yields_constant, yields_a, yields_b, yields_comparison, yields_sum, yields_difference, yields_quotient, yields_remainder, yields_greatest, yields_least, yields_minus_one, returns_value, returns_by, gives_returned}
 use Rattle.c_helpers.proofs.Sums.{Bounded, bounds, least_less, least_less_tells, greatest_less, greatest_less_tells, greatest_more, greatest_more_tells, least_more, least_more_tells}
@@ -129,9 +133,21 @@ module _ (file : CFile) (a b : ℤ) where
           (λ other. returns_value (scope_in file) (two a b) (Binary Rem (named (codes "a")) (named (codes "b"))) (int_rem a b)
           (yields_remainder (scope_in file) (two a b) (named (codes "a")) (named (codes "b")) a b a_is b_is (not_zero b some) (other_quotient a b a_bounded some other) (remainder_fits a b a_bounded))))
 
+-- the functions are inline
+are_inline : All (λ (function : CFun). function.inline ≡ true) helper_functions
+unfolding helper_functions
+are_inline = All-from_recursion (λ (function : CFun). function.inline ≡ true) helper_functions (refl, (refl, (refl, (refl, (refl, (refl, (refl, tt)))))))
+
+-- their names differ
+names_differ : IsDistinct bytes_eq (map (λ (function : CFun). function.name) helper_functions)
+unfolding IsDistinct helper_functions
+names_differ = ((refl, (refl, (refl, (refl, (refl, (refl, tt)))))), ((refl, (refl, (refl, (refl, (refl, tt))))), ((refl, (refl, (refl, (refl, tt)))), ((refl, (refl, (refl, tt))), ((refl, (refl, tt)), ((refl, tt), (tt, tt)))))))
+
 -- each function does what its law says
 pub laws : Laws
 laws = record {
+  inline = are_inline;
+  names = names_differ;
   sum = gives_sum;
   difference = gives_difference;
   product = gives_product;
