@@ -27,7 +27,11 @@ pub struct Checked {
 }
 
 impl Checked {
-    /// A file that breaks no rule, or its first broken rule. A refusal drops the file.
+    /// A file that breaks no rule, or its first broken rule: the one on the least line, and of those on one line the one with the
+    /// least number. A refusal drops the file.
+    ///
+    /// `Err(CFault::Mem)` where memory runs out; also where names clash outside functions (rule 10) while a function has a line
+    /// below 7, as functions of a tree have that is built and not read from a text.
     pub fn check(alloc: Global, file: CFile) -> Result<Checked, CFault>
         ensures { Checks file result }
     {
