@@ -5,11 +5,13 @@
 mod fault;
 mod place;
 mod rule;
+mod shared;
 mod text;
 
 pub use fault::{Broken, Fault, Mem};
 pub use place::Span;
 pub use rule::{Phase, Rule};
+pub use shared::Shared;
 pub use sqlite_items::{Boxed, Items as Row};
 pub use text::Text;
 
