@@ -3,7 +3,7 @@ use Rattle.std.proofs.Common.{◌≡◌, refl}
 use Rattle.sl_run.specs.Run.{Step, Went, Over, Act, pure, step_then, ◌>>=◌}
 
 -- what comes after a part that ended so is the same however it is bracketed
-then_assoc : {S A B C : Type 0} (x : Step S A) (f : A → Act S B) (g : B → Act S C) → step_then (step_then x f) g ≡ step_then x (λ a. f a >>= g)
+pub then_assoc : {S A B C : Type 0} (x : Step S A) (f : A → Act S B) (g : B → Act S C) → step_then (step_then x f) g ≡ step_then x (λ a. f a >>= g)
 then_assoc (Went a t s) f g = refl
 then_assoc (Over e t) f g = refl
 

@@ -1,6 +1,6 @@
 -- When two runs, of one language or of two, go alike: the outside sees the same of both.
-use Rattle.std.specs.Prelude.{◌≡◌, ℕ, ◌+◌}
-use Rattle.sl_run.specs.Run.{Trace, Step, Went, Over, Act}
+use Rattle.std.specs.Prelude.{◌≡◌, ◌⊎◌, ℕ, ◌+◌}
+use Rattle.sl_run.specs.Run.{Ending, Trace, Step, Went, Over, Act}
 
 -- Two runs so far are the same: events, rest of the input and turns left. Of their copies `copies` holds: that the second
 -- made no more than the first, say, or nothing at all. Of the bytes that were live nothing is said
@@ -10,16 +10,25 @@ pub record SameSoFar (copies : ℕ → ℕ → Type 0) (t u : Trace) : Type 0 wh
   pub left : t.left ≡ u.left
   pub made : copies t.copies u.copies
 
--- two parts ended alike: both went on, with related values and states, or both are over in the same way
-abbrev pub Alike : {S R A B : Type 0} → (ℕ → ℕ → Type 0) → (S → R → Type 0) → (A → B → Type 0) → Step S A → Step R B → Type 0
-Alike copies on val (Went x t s) (Went y u r) = val x y × SameSoFar copies t u × on s r
-Alike copies on val (Over e t) (Over f u) = (e ≡ f) × SameSoFar copies t u
-Alike copies on val (Went x t s) (Over f u) = ⊥
-Alike copies on val (Over e t) (Went y u r) = ⊥
+-- Two parts ended alike: both went on, with related values and states, or both are over in the same way. Where the first is over in
+-- a way that is `excused`, nothing is said of the second
+abbrev pub AlikeUnless : {S R A B : Type 0} → (Ending → Type 0) → (ℕ → ℕ → Type 0) → (S → R → Type 0) → (A → B → Type 0) → Step S A → Step R B → Type 0
+AlikeUnless excused copies on val (Went x t s) (Went y u r) = val x y × SameSoFar copies t u × on s r
+AlikeUnless excused copies on val (Over e t) (Over f u) = excused e ⊎ ((e ≡ f) × SameSoFar copies t u)
+AlikeUnless excused copies on val (Went x t s) (Over f u) = ⊥
+AlikeUnless excused copies on val (Over e t) (Went y u r) = excused e
+
+-- from runs that are the same so far and from related states, two parts go alike, unless the first is over in a way that is excused
+abbrev pub FollowsUnless : {S R A B : Type 0} → (Ending → Type 0) → (ℕ → ℕ → Type 0) → (S → R → Type 0) → (A → B → Type 0) → Act S A → Act R B → Type 0
+FollowsUnless {S} {R} excused copies on val a b = (t u : Trace) (s : S) (r : R) → SameSoFar copies t u → on s r → AlikeUnless excused copies on val (a t s) (b u r)
+
+-- no way of being over is excused
+abbrev pub NoneExcused : Ending → Type 0
+NoneExcused e = ⊥
 
 -- from runs that are the same so far and from related states, two parts go alike
 abbrev pub Follows : {S R A B : Type 0} → (ℕ → ℕ → Type 0) → (S → R → Type 0) → (A → B → Type 0) → Act S A → Act R B → Type 0
-Follows {S} {R} copies on val a b = (t u : Trace) (s : S) (r : R) → SameSoFar copies t u → on s r → Alike copies on val (a t s) (b u r)
+Follows copies on val a b = FollowsUnless NoneExcused copies on val a b
 
 -- the relation of copies still holds where the first run makes so many more, and the second so many
 abbrev pub KeepsCopies : (ℕ → ℕ → Type 0) → ℕ → ℕ → Type 0
