@@ -1,5 +1,5 @@
 -- Which cores are sound: their numbers are in range, their types fit, they don't nest too deep, and they are never stuck.
-use Rattle.std.specs.Prelude.{◌≡◌, ◌≢◌, ◌⊎◌, ℕ, ◌+◌, ℤ, pos, neg_ℤ, ◌-◌, ◌^◌, ◌≤◌, ◌≤ℤ◌, int_le, List, Bool, true, false, not, ◌&&◌, ◌==◌, max, map, is_some, Option, None, Some, slice_get, if◌then◌else◌, All}
+use Rattle.std.specs.Prelude.{◌≡◌, ◌≢◌, ◌⊎◌, ℕ, ◌+◌, ℤ, pos, neg_ℤ, ◌-◌, ◌^◌, ◌≤◌, ◌<◌, ◌≤ℤ◌, int_le, nat_lt, length, List, Bool, true, false, not, ◌&&◌, ◌==◌, max, map, is_some, Option, None, Some, slice_get, if◌then◌else◌, All}
 use Rattle.std.specs.List.{list_all, fold, IsDistinct}
 use Rattle.std.specs.Option.{option_and_then}
 use Rattle.std.specs.Str.{bytes_eq}
@@ -90,6 +90,35 @@ fits_step core function (stmt.Return e) = is_number_of function.result (kind_of 
 unfoldable pub fits : Core → CoreFun → CoreStmt → Bool
 fits core function s = fold-CoreStmt Bool (fits_step core function) s
 
+-- Ranges --------------------------------------------------------------------------------------------------------------
+
+-- a place in the source: the number of a file and that of a line have 32 bits
+abbrev pub is_source_place : (file line : ℕ) → Bool
+is_source_place file line = nat_lt file (2 ^ 32) && nat_lt line (2 ^ 32)
+
+-- whether the bytes of texts are bytes, and the places of operations have 32 bits, given whether it is so in the parts
+abbrev pub expr_range_step : CoreExpr-F Bool → Bool
+expr_range_step (expr.Number number type) = true
+expr_range_step (expr.TextOf bytes) = list_all (λ byte. nat_lt byte 256) bytes
+expr_range_step (expr.Path path type) = true
+expr_range_step (expr.Apply op left right type file line) = left && right && is_source_place file line
+expr_range_step (expr.Compare comparison left right type) = left && right
+
+unfoldable pub expr_in_range : CoreExpr → Bool
+expr_in_range e = fold-CoreExpr Bool expr_range_step e
+
+-- the kind of a halt has 8 bits, and its place is as that of an operation
+abbrev pub stmt_range_step : CoreStmt-F Bool → Bool
+stmt_range_step (stmt.Store path e) = expr_in_range e
+stmt_range_step (stmt.If test chosen other) = expr_in_range test && list_all (λ fits. fits) chosen && list_all (λ fits. fits) other
+stmt_range_step (stmt.Call target number) = true
+stmt_range_step (stmt.Put e) = expr_in_range e
+stmt_range_step (stmt.Halt kind file line) = nat_lt kind 256 && is_source_place file line
+stmt_range_step (stmt.Return e) = expr_in_range e
+
+unfoldable pub stmt_in_range : CoreStmt → Bool
+stmt_in_range s = fold-CoreStmt Bool stmt_range_step s
+
 -- Depth ---------------------------------------------------------------------------------------------------------------
 
 -- how deep statements and expressions may nest together. The C of a core nests a few times deeper, and C nests at most 1024 deep
@@ -131,12 +160,20 @@ IsType (Int kind) = IsRange kind × (kind.lo ≤ℤ kind.hi) × ((pos 0 ≤ℤ k
 abbrev pub IsExitType : CoreType → Type 0
 IsExitType (Int kind) = (neg_ℤ (pos (2 ^ 63)) ≤ℤ kind.lo) × (kind.hi ≤ℤ pos (2 ^ 63 - 1))
 
+-- what is so of each function that is held in memory: its name has bytes, its variables can be counted in 64 bits, and the kinds,
+-- files, lines and bytes in its statements have the bits that there are for them
+pub record IsInRange (function : CoreFun) : Type 0 where
+  pub name : All (λ byte. byte ≤ 255) function.name
+  pub vars : length function.vars < 2 ^ 64
+  pub body : All (λ s. stmt_in_range s ≡ true) function.body
+
 -- a function: its variables and its result have types that there are, and its statements fit
 pub record IsFunction (core : Core) (function : CoreFun) : Type 0 where
   pub vars : All (λ type. is_some (slice_get core.types type) ≡ true) function.vars
   pub result : is_some (slice_get core.types function.result) ≡ true
   pub fit : All (λ s. fits core function s ≡ true) function.body
   pub depth : All (λ s. stmt_depth s ≤ deepest) function.body
+  pub in_range : IsInRange function
 
 -- a sound core. `never_stuck` is of every run
 pub record IsSound (core : Core) : Type 0 where
