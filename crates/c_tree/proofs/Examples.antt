@@ -65,6 +65,11 @@ pub no_value : (input : List ℕ) (turns : ℕ) → c_run (start_alone []) None 
 unfolding c_run whole_run
 no_value input turns = refl
 
+-- it returns without one, and stands behind another function: the number is its own
+pub no_value_behind : (input : List ℕ) (turns : ℕ) → c_run (file_with [] (function_with (codes "f") Void [] ∷ start_with (Return None ∷ []) ∷ [])) None input turns ≡ record { ending = Stuck 1; events = []; rest = input; left = turns }
+unfolding c_run whole_run
+no_value_behind input turns = simp running
+
 -- a file of `sl_main`, which puts 65, calls `f`, puts 67 and returns 7, and behind it `f` with these statements
 abbrev calling : List CStmt → CFile
 calling body =

@@ -27,10 +27,10 @@ use Rattle.c_tree.specs.Words.{reserved_words}
 use Rattle.c_tree.specs.Parts.{Leaf, Constant, Reads, leaves, Action, Assigns, Calls, Tests, Returns, Puts, Halts, actions_in}
 use Rattle.c_tree.specs.Bytes.{struct_extent, called}
 use Rattle.c_tree.specs.Scope.{Scope, scope_of, variable}
-use Rattle.c_tree.specs.Rules.{var_names, fun_names, NamesClash, BreaksSizes, StandsBefore, IsDeclared, NamesRead, NamesVariable, BreaksOutside, BreaksInside, Breaks, is_word, type_of_name, typed, HasExpr, HasOtherType, HasWrongValue, ArgumentsMisfit, last_is, ends_function, AreAlike, KeepsRules}
+use Rattle.c_tree.specs.Rules.{var_names, fun_names, NamesClash, BreaksSizes, IsDeclared, NamesRead, NamesVariable, BreaksOutside, BreaksInside, Breaks, is_word, type_of_name, typed, HasExpr, HasOtherType, HasWrongValue, ArgumentsMisfit, last_is, ends_function, AreAlike, KeepsRules}
 use Rattle.c_tree.specs.Rules as rules
 use Rattle.c_tree.proofs.Variants.{leaves_are, types_are, actions_are, ends_are}
-use Rattle.c_tree.proofs.Lists.{in_none, first_in, second_in, of_one}
+use Rattle.c_tree.proofs.Lists.{in_none, first_in, second_in, of_one, AllPlaces, at_place}
 use Rattle.c_tree.proofs.Small.{word, proto_of, function_with, inline_with, start_with, signed, unsigned, named, give, bare_call, set, member_of}
 
 -- Typed functions -----------------------------------------------------------------------------------------------------
@@ -94,7 +94,7 @@ each_argument scope (e ∷ es) (param ∷ params) keeps = All-cons (λ e. (kind 
 one_argument : (scope : Scope) (es : List CExpr) (params : List CVar) → ArgumentsKeep scope es params → (e : CExpr) → Contains es e → (kind : CType) × ExprKeeps scope e kind
 one_argument scope es params keeps e among = All-contains (λ e. (kind : CType) × ExprKeeps scope e kind) es e (each_argument scope es params keeps) among
 
-module _ (file : CFile) (function : CFun) where
+module _ (file : CFile) (before : List CFun) (function : CFun) where
   -- what the function can name
   abbrev inside : Scope
   inside = scope_of file function
@@ -118,9 +118,9 @@ module _ (file : CFile) (function : CFun) where
 
   -- a name that is called is declared and not hidden, and where the caller is inline it is that of an inline function before it
   record NameKeeps (name : List ℕ) : Type 0 where
-    pub declared : IsDeclared file function name
+    pub declared : IsDeclared file before function name
     pub seen : ¬ Contains (var_names (function.params ++ function.vars)) name
-    pub below : function.inline ≡ true → (callee : CFun) × StandsBefore file callee function × (callee.inline ≡ true) × (callee.name ≡ name)
+    pub below : function.inline ≡ true → (callee : CFun) × Contains before callee × (callee.inline ≡ true) × (callee.name ≡ name)
 
   -- a function that keeps the rules
   record FunctionKeeps : Type 0 where
@@ -203,7 +203,7 @@ module _ (file : CFile) (function : CFun) where
     result_right (Name name) result kept (inr (kind, is, differ)) = let same : Some result ≡ Some kind = sym kept.0 ∙ is in differ cc
 
     -- so it breaks no rule
-    function_keeps : (rule : ℕ) → ¬ BreaksInside file function rule
+    function_keeps : (rule : ℕ) → ¬ BreaksInside file before function rule
     function_keeps rule (inl (is, clash)) = keeps.names clash
     function_keeps rule (inr (inl (is, inl (name, among, inl undeclared)))) = undeclared (name_keeps name among).declared
     function_keeps rule (inr (inl (is, inl (name, among, inr hidden)))) = (name_keeps name among).seen hidden
@@ -223,7 +223,7 @@ module _ (file : CFile) (function : CFun) where
         let wide : true ≡ false = sym kept.1 ∙ (ap is_word right ∙ narrow) in
         cc
     function_keeps rule (inr (inr (inr (inr (inr (inr (inr (inl (is, (inline, (name, among, not))))))))))) =
-        let below : (callee : CFun) × StandsBefore file callee function × (callee.inline ≡ true) × (callee.name ≡ name) = (name_keeps name among).below inline in
+        let below : (callee : CFun) × Contains before callee × (callee.inline ≡ true) × (callee.name ≡ name) = (name_keeps name among).below inline in
         not below.0 below.1 below.2 below.3
     function_keeps rule (inr (inr (inr (inr (inr (inr (inr (inr (is, (result, ended)))))))))) = let same : true ≡ false = sym (keeps.ends result) ∙ ended in cc
 
@@ -382,21 +382,13 @@ name_keeps_rules scope name is = record {
   type = simp types_are (ap (λ type. record { type = type; fits = true }) is);
 }
 
--- the inline functions stand before those that follow them
-low_before_high : StandsBefore file low high
-low_before_high = (low ∷ [], start ∷ last ∷ [], refl, first_in low [])
-
--- the one that calls it stands before `sl_main`
-high_before_start : StandsBefore file high start
-high_before_start = (low ∷ high ∷ [], last ∷ [], refl, second_in low high [])
-
 -- a single local name doesn't clash
 one_keeps : (name : List ℕ) → list_any (bytes_eq name) reserved_words ≡ false → bytes_eq name name ≡ true → ¬ NamesClash (name ∷ [])
 unfolding IsDistinct
 one_keeps name none same = no_clash (name ∷ []) (tt, tt) (free name none same, tt)
 
 -- each function keeps the rules
-low_keeps : FunctionKeeps file low
+low_keeps : FunctionKeeps file [] low
 low_keeps = record {
   names = one_keeps (codes "x") refl refl;
   does = Puts (named (codes "x")) ∷ [];
@@ -409,7 +401,7 @@ low_keeps = record {
 }
 
 -- so does the inline function that calls another
-high_keeps : FunctionKeeps file high
+high_keeps : FunctionKeeps file (low ∷ []) high
 high_keeps = record {
   names = none_clash;
   does = Calls None (codes "h") (signed 65 ∷ []) ∷ [];
@@ -425,12 +417,12 @@ high_keeps = record {
   );
   callees = codes "h" ∷ [];
   calls = simp actions_are;
-  reached = (record { declared = inr (inr (low, low_before_high, refl)); seen = in_none (codes "h"); below = λ _. (low, low_before_high, refl, refl) }, tt);
+  reached = (record { declared = inr (inr (first_in (codes "h") [])); seen = in_none (codes "h"); below = λ _. (low, first_in low [], refl, refl) }, tt);
   ends = λ not. absurd (not refl);
 }
 
 -- so does `sl_main`
-start_keeps : FunctionKeeps file start
+start_keeps : FunctionKeeps file (low ∷ high ∷ []) start
 start_keeps = record {
   names = one_keeps (codes "a") refl refl;
   does =
@@ -474,7 +466,7 @@ start_keeps = record {
     },
     (
       record {
-        declared = inr (inr (high, high_before_start, refl));
+        declared = inr (inr (second_in (codes "h") (codes "i") []));
         seen = λ among. of_one (λ name. name ≢ codes "i") (codes "a") (codes "i") (names_differ (codes "a") (codes "i") refl) among refl;
         below = λ no. cc;
       },
@@ -485,7 +477,7 @@ start_keeps = record {
 }
 
 -- so does the last function
-last_keeps : FunctionKeeps file last
+last_keeps : FunctionKeeps file (low ∷ high ∷ start ∷ []) last
 last_keeps = record {
   names = one_keeps (codes "h") refl refl;
   does = Assigns (Name (codes "g")) (named (codes "h")) ∷ Tests (unsigned 0) ∷ Halts 1 0 2 ∷ Returns (Some (named (codes "g"))) ∷ [];
@@ -504,12 +496,18 @@ last_keeps = record {
 }
 
 -- nothing is broken in any
-inside_keeps : AllByRecursion (λ function. (rule : ℕ) → ¬ BreaksInside file function rule) file.functions
-inside_keeps = (function_keeps file low low_keeps, (function_keeps file high high_keeps, (function_keeps file start start_keeps, (function_keeps file last last_keeps, tt))))
+inside_keeps : AllPlaces (λ before function. (rule : ℕ) → ¬ BreaksInside file before function rule) file.functions
+inside_keeps = (
+  function_keeps file [] low low_keeps,
+  (
+    function_keeps file (low ∷ []) high high_keeps,
+    (function_keeps file (low ∷ high ∷ []) start start_keeps, (function_keeps file (low ∷ high ∷ start ∷ []) last last_keeps, tt)),
+  ),
+)
 
 -- so no rule is broken
 pub file_keeps_rules : KeepsRules file
 unfolding Breaks
 file_keeps_rules rule line (inl h) = outside_keeps rule h.1
-file_keeps_rules rule line (inr h) =
-    All-contains (λ function. (rule : ℕ) → ¬ BreaksInside file function rule) file.functions h.0 (All-from_recursion (λ function. (rule : ℕ) → ¬ BreaksInside file function rule) file.functions inside_keeps) h.1 rule h.3
+file_keeps_rules rule line (inr (before, function, (behind, whole), same, broken)) =
+    at_place (λ before function. (rule : ℕ) → ¬ BreaksInside file before function rule) file.functions before behind function inside_keeps whole rule broken

@@ -10,5 +10,7 @@ pub mod Examples
 pub mod Refused
 pub mod Kept
 pub mod Places
+pub mod Lineless
 pub mod Forms
 pub mod Spelling
+pub mod Mangled

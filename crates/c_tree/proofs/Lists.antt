@@ -1,5 +1,5 @@
 -- What is short to say of the elements of short lists.
-use Rattle.std.proofs.Common.{◌≡◌, ◌≢◌, List, [], ◌∷◌, ◌++◌, refl, sym, subst, ◌∙◌, arith, Contains}
+use Rattle.std.proofs.Common.{◌≡◌, ◌≢◌, List, [], ◌∷◌, ◌++◌, refl, sym, subst, arith, Contains}
 use Rattle.std.proofs.lemmas.List.Elements.{All-nil, All-cons, All-contains}
 
 -- nothing is in the empty list
@@ -27,13 +27,16 @@ pub not_empty : {X : Type 0} (x : X) (before behind : List X) → [] ≢ before 
 not_empty x [] behind none = cc
 not_empty x (y ∷ before) behind none = cc
 
--- nothing stands before an element of a list of one
-pub before_one : {X : Type 0} (only x earlier : X) (before behind : List X) → only ∷ [] ≡ before ++ x ∷ behind → ¬ Contains before earlier
-before_one only x earlier [] behind these among = in_none earlier among
-before_one only x earlier (y ∷ before) behind these among = not_empty x before behind (let rest : [] ≡ before ++ x ∷ behind = cc in rest)
+-- each element of a list is so, which is said of those before it and it
+abbrev pub AllPlaces : {X : Type 0} → (List X → X → Type 0) → List X → Type 0
+AllPlaces P [] = Unit {0}
+AllPlaces P (x ∷ xs) = P [] x × AllPlaces (λ before y. P (x ∷ before) y) xs
 
--- what stands before an element of a list of two is the first
-pub before_two : {X : Type 0} (first second x earlier : X) (before behind : List X) → first ∷ second ∷ [] ≡ before ++ x ∷ behind → Contains before earlier → first ≡ earlier
-before_two first second x earlier [] behind these among = absurd (in_none earlier among)
-before_two first second x earlier (y ∷ []) behind these among = let same : first ≡ y = cc in same ∙ of_one (λ z. y ≡ z) y earlier refl among
-before_two first second x earlier (y ∷ z ∷ before) behind these among = absurd (not_empty x before behind (let rest : [] ≡ before ++ x ∷ behind = cc in rest))
+-- so it holds of each place
+pub at_place : {X : Type 0} (P : List X → X → Type 0) (xs before behind : List X) (x : X) → AllPlaces P xs → xs ≡ before ++ x ∷ behind → P before x
+at_place P [] before behind x all is = absurd (not_empty x before behind is)
+at_place P (y ∷ xs) [] behind x all is = let same : y ≡ x = cc in subst (P []) same all.0
+at_place P (y ∷ xs) (z ∷ before) behind x all is =
+    let same : y ≡ z = cc in
+    let rest : xs ≡ before ++ x ∷ behind = cc in
+    subst (λ first. P (first ∷ before) x) same (at_place (λ before y'. P (y ∷ before) y') xs before behind x all.1 rest)

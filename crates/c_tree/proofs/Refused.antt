@@ -1,5 +1,5 @@
 -- Each rule is broken by a small tree.
-use Rattle.std.proofs.Common.{◌≡◌, ◌≢◌, ℕ, ◌+◌, ◌^◌, List, [], ◌∷◌, true, false, Some, None, refl, sym, ap, ◌∙◌, inl, inr, arith, Contains, codes, bytes_eq}
+use Rattle.std.proofs.Common.{◌≡◌, ◌≢◌, ℕ, ◌+◌, ◌^◌, List, [], ◌∷◌, true, false, Some, None, refl, sym, ap, inl, inr, arith, Contains, codes, bytes_eq}
 use Rattle.std.specs.List.{list_any, IsDistinct}
 use Rattle.c_tree.specs.declared.tree.CArg.TheVariants.{Value}
 use Rattle.c_tree.specs.declared.tree.CBinary.TheVariants.{Add}
@@ -19,7 +19,7 @@ use Rattle.c_tree.specs.Bytes.{called}
 use Rattle.c_tree.specs.Scope.{Scope, scope_of}
 use Rattle.c_tree.specs.Rules.{var_names, typed, NamesClash, IsDeclared, BreaksOutside, BreaksInside, Breaks, AreAlike, IsStart}
 use Rattle.c_tree.proofs.Variants.{actions_are, leaves_are, types_are, ends_are}
-use Rattle.c_tree.proofs.Lists.{in_none, first_in, second_in, in_same, of_one, before_one, before_two}
+use Rattle.c_tree.proofs.Lists.{in_none, first_in, second_in, in_same, of_one}
 use Rattle.c_tree.proofs.Small.{proto_of, word, function_with, inline_with, start_with, signed, unsigned, named, give, bare_call, set, file_with, start_alone, member_of, struct_alone}
 
 -- What is broken where -----------------------------------------------------------------------------------------------
@@ -30,16 +30,16 @@ unfolding Breaks
 outside file rule broken = inl (refl, broken)
 
 -- a rule that is broken in the first function is broken on its line
-in_first : (file : CFile) (rule : ℕ) (function : CFun) (others : List CFun) → file.functions ≡ function ∷ others → BreaksInside file function rule → Breaks file rule function.line
+in_first : (file : CFile) (rule : ℕ) (function : CFun) (others : List CFun) → file.functions ≡ function ∷ others → BreaksInside file [] function rule → Breaks file rule function.line
 unfolding Breaks
-in_first file rule function others these broken = inr (function, rw these (first_in function others), refl, broken)
+in_first file rule function others these broken = inr ([], function, (others, these), refl, broken)
 
 -- a file of one function, with its prototype
 abbrev alone : CFun → CFile
 alone function = file_with (function ∷ []) (function ∷ [])
 
 -- what is broken in it is broken on line 20
-in_alone : (rule : ℕ) (function : CFun) → function.line ≡ 20 → BreaksInside (alone function) function rule → Breaks (alone function) rule 20
+in_alone : (rule : ℕ) (function : CFun) → function.line ≡ 20 → BreaksInside (alone function) [] function rule → Breaks (alone function) rule 20
 in_alone rule function line broken = rw (← line) (in_first (alone function) rule function [] refl broken)
 
 -- 10 -----------------------------------------------------------------------------------------------------------------
@@ -112,10 +112,10 @@ caller_calls : called caller ≡ codes "f" ∷ []
 caller_calls = simp actions_are
 
 -- nothing declares `f` where there is no such function
-not_declared : ¬ IsDeclared (alone caller) caller (codes "f")
+not_declared : ¬ IsDeclared (alone caller) [] caller (codes "f")
 not_declared (inl declared) = of_one (λ name. name ≢ codes "f") (codes "sl_main") (codes "f") (λ same. cc) declared refl
 not_declared (inr (inl itself)) = cc
-not_declared (inr (inr h)) = before_one caller caller h.0 h.1.0 h.1.1 h.1.2 h.1.3
+not_declared (inr (inr before)) = in_none (codes "f") before
 
 -- so the call breaks 11 on the line of the caller
 pub undeclared : Breaks (alone caller) 11 20
@@ -126,13 +126,10 @@ abbrev behind_file : CFile
 behind_file = file_with (caller ∷ []) (caller ∷ inline_with (codes "f") Void [] ∷ [])
 
 -- it isn't declared where it is called
-not_yet_declared : ¬ IsDeclared behind_file caller (codes "f")
+not_yet_declared : ¬ IsDeclared behind_file [] caller (codes "f")
 not_yet_declared (inl declared) = of_one (λ name. name ≢ codes "f") (codes "sl_main") (codes "f") (λ same. cc) declared refl
 not_yet_declared (inr (inl itself)) = cc
-not_yet_declared (inr (inr h)) =
-    let name : caller.name ≡ h.0.name = ap (λ function. function.name) (before_two caller (inline_with (codes "f") Void []) caller h.0 h.1.0 h.1.1 h.1.2 h.1.3) in
-    let same : caller.name ≡ codes "f" = name ∙ h.2 in
-    cc
+not_yet_declared (inr (inr before)) = in_none (codes "f") before
 
 -- so the call breaks 11 on the line of the caller
 pub behind_its_caller : Breaks behind_file 11 20
@@ -353,7 +350,7 @@ inline_calls_itself =
     in_alone 19 inline_self refl
     (inr (inr (inr (inr (inr (inr (inr (inl (
       refl,
-      (refl, (codes "f", in_same inline_self_calls (first_in (codes "f") []), λ callee stands inline named. before_one inline_self inline_self callee stands.0 stands.1 stands.2 stands.3)),
+      (refl, (codes "f", in_same inline_self_calls (first_in (codes "f") []), λ callee before inline named. in_none callee before)),
     )))))))))
 
 -- an inline function that calls one before it that isn't inline
@@ -377,8 +374,9 @@ pub inline_calls_other : Breaks inline_file 19 30
 unfolding Breaks
 inline_calls_other =
     inr (
+      earlier ∷ [],
       inline_caller,
-      second_in earlier inline_caller [],
+      ([], refl),
       refl,
       inr (inr (inr (inr (inr (inr (inr (inl (
         refl,
@@ -387,8 +385,7 @@ inline_calls_other =
           (
             codes "g",
             in_same inline_caller_calls (first_in (codes "g") []),
-            λ callee stands inline named.
-                let same : earlier.inline ≡ callee.inline = ap (λ function. function.inline) (before_two earlier inline_caller inline_caller callee stands.0 stands.1 stands.2 stands.3) in cc,
+            λ callee before inline named. of_one (λ function. function.inline ≢ true) earlier callee (λ same. cc) before inline,
           ),
         ),
       )))))))),

@@ -1,4 +1,5 @@
 pub mod Words
+pub mod Mangled
 pub mod Parts
 pub mod Flat
 pub mod WellFormed

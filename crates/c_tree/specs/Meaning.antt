@@ -250,9 +250,13 @@ begin owner bytes function args t memory =
 abbrev pub leave : {A : Type 0} → A → Act Memory A
 leave value t memory = Went value t (without_frame memory)
 
+-- the body of a function in its frame, but for the end of the frame
+abbrev pub in_frame : CFile → CFun → Callees → Act Memory (Option ℤ)
+in_frame file function call = block (scope_of file function) function.body call >>= given function.result
+
 -- the body of a function in its frame, to its end
 abbrev pub body : CFile → CFun → Callees → Act Memory (Option ℤ)
-body file function call = block (scope_of file function) function.body call >>= given function.result >>= leave
+body file function call = in_frame file function call >>= leave
 
 -- an inline function begins its frame, which counts no bytes, above its caller's
 abbrev pub begin_inline : CFun → List Tree → Act Memory (Unit {0})
@@ -307,12 +311,12 @@ exit_value value = with_some value pure
 abbrev pub begin_start : CFile → Option ℕ → ℕ → CFun → Act Memory (Unit {0})
 begin_start file limit number function = keep_within limit (charge file function) >> begin number (charge file function) function []
 
--- `sl_main` begins and goes to its end; what it gives is the exit value
+-- `sl_main` begins; what it gives is the exit value, and its frame ends
 abbrev pub program : CFile → Option ℕ → Act Memory ℤ
 program file limit =
     with_some (number_of file (codes "sl_main")) (λ number.
     with_some (slice_get file.functions number) (λ function.
-    begin_start file limit number function >> (body file function (run_callees file limit) >>= exit_value)))
+    begin_start file limit number function >> (in_frame file function (run_callees file limit) >>= exit_value >>= leave)))
 
 -- the memory before the run: the globals are unwritten
 abbrev pub first_memory : CFile → Memory

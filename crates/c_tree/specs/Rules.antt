@@ -3,8 +3,8 @@
 -- function are its result, its parameters, its variables and its statements.
 --
 -- The rules 10 to 22 are about trees. Of these 12 and 20 speak of structs used as types and of counted loops, which no tree has
--- yet. The rules 1 to 9 are about bytes: they are kept where there is a tree with that text. An expression that names what isn't
--- declared has no type, and breaks no rule of types.
+-- yet. The rules 1 to 9 are about bytes: they are kept where there is a tree with that text. A place that isn't declared has no
+-- type and fits every operator; rule 11 is told before the rules of types.
 use Rattle.std.specs.Prelude.{◌≡◌, ◌≢◌, ◌⊎◌, ℕ, ◌^◌, ◌<◌, ◌≤◌, List, [], ◌∷◌, ◌++◌, Bool, true, false, not, ◌&&◌, ◌||◌, ◌==◌, Option, Some, None, option_map, Contains, map, codes}
 use Rattle.std.specs.List.{count_by, IsDistinct}
 use Rattle.std.specs.Str.{bytes_eq}
@@ -50,17 +50,16 @@ BreaksNames file =
 abbrev pub BreaksLocalNames : CFun → Type 0
 BreaksLocalNames function = NamesClash (var_names (function.params ++ function.vars))
 
--- a function stands before another in the file
-abbrev pub StandsBefore : CFile → CFun → CFun → Type 0
-StandsBefore file earlier function = (before : List CFun) × (behind : List CFun) × (file.functions ≡ before ++ function ∷ behind) × Contains before earlier
+-- a function stands in the file behind these
+abbrev pub StandsBehind : CFile → List CFun → CFun → Type 0
+StandsBehind file before function = (behind : List CFun) × (file.functions ≡ before ++ function ∷ behind)
 
--- a name is declared where a function calls it: by a prototype, by the function itself, or by a function that stands before
--- (ISO C11, 6.2.1)
-abbrev pub IsDeclared : CFile → CFun → List ℕ → Type 0
-IsDeclared file function name =
+-- a name is declared where a function behind these calls it: by a prototype, by the function itself, or by one of these
+abbrev pub IsDeclared : CFile → List CFun → CFun → List ℕ → Type 0
+IsDeclared file before function name =
     Contains (fun_names file.protos) name
     ⊎ (function.name ≡ name)
-    ⊎ ((earlier : CFun) × StandsBefore file earlier function × (earlier.name ≡ name))
+    ⊎ Contains (fun_names before) name
 
 -- the names that an expression reads
 abbrev pub NamesRead : CExpr → List ℕ → Type 0
@@ -75,11 +74,11 @@ NamesVariable (Returns value) name = (e : CExpr) × (value ≡ Some e) × NamesR
 NamesVariable (Puts e) name = NamesRead e name
 NamesVariable (Halts kind file line) name = ⊥
 
--- 11: a called name isn't declared, or is that of a parameter or a variable of the function, which hides the function; or a
--- variable isn't declared
-abbrev pub BreaksDeclared : CFile → CFun → Type 0
-BreaksDeclared file function =
-    ((name : List ℕ) × Contains (called function) name × ((¬ IsDeclared file function name) ⊎ Contains (var_names (function.params ++ function.vars)) name))
+-- 11, in a function behind these: a called name isn't declared, or is that of a parameter or a variable of the function, which
+-- hides the called one; or a variable isn't declared
+abbrev pub BreaksDeclared : CFile → List CFun → CFun → Type 0
+BreaksDeclared file before function =
+    ((name : List ℕ) × Contains (called function) name × ((¬ IsDeclared file before function name) ⊎ Contains (var_names (function.params ++ function.vars)) name))
     ⊎ ((action : Action) × (name : List ℕ) × Contains (actions_in function.body) action × NamesVariable action name × (variable (scope_of file function) name ≡ None))
 
 -- 13: an array has no element or more than 2 ^ 24, or a struct more than 2 ^ 24 bytes
@@ -114,7 +113,7 @@ type_of_name scope name = option_map (λ var. var.kind) (variable scope name)
 abbrev pub type_of_place : Scope → CPlace → Option CType
 type_of_place scope (Name name) = type_of_name scope name
 
--- what is known of an expression: its type, where what it names is declared, and whether operands in it fit their operators
+-- what is known of an expression: its type, where it has one, and whether operands in it fit their operators
 pub record Typed : Type 0 where
   pub type : Option CType
   pub fits : Bool
@@ -205,12 +204,12 @@ BreaksConditions file function =
     (test : CExpr) × (other : CType) × Contains (actions_in function.body) (Tests test)
     × ((typed (scope_of file function) test).type ≡ Some other) × (is_word other ≡ false)
 
--- 19: an inline function calls a function that isn't an inline one before it
-abbrev pub BreaksInline : CFile → CFun → Type 0
-BreaksInline file function =
+-- 19: an inline function behind these calls a function that isn't an inline one of these
+abbrev pub BreaksInline : List CFun → CFun → Type 0
+BreaksInline before function =
     (function.inline ≡ true)
     × ((name : List ℕ) × Contains (called function) name
-    × ((callee : CFun) → StandsBefore file callee function → callee.inline ≡ true → callee.name ≢ name))
+    × ((callee : CFun) → Contains before callee → callee.inline ≡ true → callee.name ≢ name))
 
 -- whether the last of some is so
 abbrev pub last_is : List Bool → Bool
@@ -259,17 +258,17 @@ BreaksPrototypes file =
     ⊎ ((proto : CFun) × Contains file.protos proto × ((function : CFun) → Contains file.functions function → function.inline ≡ false → ¬ AreAlike proto function))
     ⊎ ((function : CFun) → Contains file.functions function → ¬ IsStart function)
 
--- a rule is broken in a function
-abbrev pub BreaksInside : CFile → CFun → ℕ → Type 0
-BreaksInside file function rule =
+-- a rule is broken in a function behind these
+abbrev pub BreaksInside : CFile → List CFun → CFun → ℕ → Type 0
+BreaksInside file before function rule =
     ((rule ≡ 10) × BreaksLocalNames function)
-    ⊎ ((rule ≡ 11) × BreaksDeclared file function)
+    ⊎ ((rule ≡ 11) × BreaksDeclared file before function)
     ⊎ ((rule ≡ 14) × BreaksOperands file function)
     ⊎ ((rule ≡ 15) × BreaksValues file function)
     ⊎ ((rule ≡ 16) × BreaksArguments file function)
     ⊎ ((rule ≡ 17) × BreaksResults file function)
     ⊎ ((rule ≡ 18) × BreaksConditions file function)
-    ⊎ ((rule ≡ 19) × BreaksInline file function)
+    ⊎ ((rule ≡ 19) × BreaksInline before function)
     ⊎ ((rule ≡ 21) × BreaksEnd function)
 
 -- a rule is broken outside functions
@@ -283,7 +282,7 @@ BreaksOutside file rule =
 unfoldable pub Breaks : CFile → ℕ → ℕ → Type 0
 Breaks file rule line =
     ((line ≡ first_line) × BreaksOutside file rule)
-    ⊎ ((function : CFun) × Contains file.functions function × (line ≡ function.line) × BreaksInside file function rule)
+    ⊎ ((before : List CFun) × (function : CFun) × StandsBehind file before function × (line ≡ function.line) × BreaksInside file before function rule)
 
 -- no rule is broken
 abbrev pub KeepsRules : CFile → Type 0

@@ -3,9 +3,11 @@
 #![tactic(auto)]
 
 mod fault;
+mod mangling;
 mod tree;
 
 pub use fault::{CFault, NotC};
+pub use mangling::mangle;
 pub use tree::{CArg, CBinary, CExpr, CFile, CFun, CMember, CPlace, CStmt, CStruct, CType, CVar};
 
 #[cfg(test)]

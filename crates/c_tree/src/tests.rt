@@ -12,3 +12,10 @@ fn faults_print_their_cause(rt: HostRuntime) -> Result<(), Fail> {
     );
     Ok(())
 }
+
+#[test]
+fn names_are_mangled(rt: HostRuntime) -> Result<(), Fail> {
+    let name = mangle(rt.alloc(), "Ab9_.[],é(")?;
+    assert_eq!(rt; name.as_str(), "m_Ab9___d_l_r_c_xc3_xa9_x28");
+    Ok(())
+}
