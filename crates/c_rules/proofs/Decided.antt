@@ -15,11 +15,10 @@ use Rattle.c_tree.specs.declared.tree.CStmt.{CStmt}
 use Rattle.c_tree.specs.Parts.{Action, Assigns, Calls, Tests, Returns, Puts, Halts, actions, actions_in}
 use Rattle.c_tree.specs.Bytes.{called_by, called}
 use Rattle.c_tree.specs.Scope.{Scope, scope_of, variable}
-use Rattle.c_tree.specs.Rules.{var_names, BreaksLocalNames, StandsBefore, IsDeclared, NamesRead, NamesVariable, BreaksDeclared, word, is_word, type_of_place, typed, HasExpr, BreaksOperands, HasOtherType, HasWrongValue, BreaksValues, ArgumentsMisfit, last_is, ends_function, BreaksEnd, BreaksInside}
+use Rattle.c_tree.specs.Rules.{var_names, BreaksLocalNames, IsDeclared, NamesRead, NamesVariable, BreaksDeclared, word, is_word, type_of_place, typed, HasExpr, BreaksOperands, HasOtherType, HasWrongValue, BreaksValues, ArgumentsMisfit, last_is, ends_function, BreaksEnd, BreaksInside}
 use Rattle.c_rules.specs.Least.{told, least, least_in, IsLeast}
 use Rattle.c_rules.specs.Types.{is_void, is_other, are_other, is_no_word, reads_strange}
 use Rattle.c_rules.specs.Bodies.{is_named, misfits, result_misfits, is_declared, is_var, is_inline_among, of_expr, of_place, of_target, of_name, of_callee, rule_of, of_stmt, of_block}
-use Rattle.c_rules.specs.Inside.{AreBefore}
 use Rattle.c_rules.proofs.Anys.{any_holds, in_none, first_in, in_cases}
 use Rattle.c_rules.proofs.Holds.{in_flat, flat_in, any_named, is_void_holds, is_other_holds, are_other_holds, not_holds, is_no_word_holds, PlaceUnknown, place_holds, ExprUnknown, expr_holds, misfits_holds, ResultMisfits, result_holds, local_holds}
 use Rattle.c_rules.proofs.Leasts.{is_told, is_least, is_like, is_where, is_in}
@@ -35,7 +34,7 @@ reassociated : (first second third : Bool) → (first || second) || third ≡ fi
 reassociated true second third = refl
 reassociated false second third = refl
 
-module _ (file : CFile) (earlier : List CFun) (function : CFun) (before : AreBefore file earlier function) where
+module _ (file : CFile) (earlier : List CFun) (function : CFun) where
   abbrev scope : Scope
   scope = scope_of file function
 
@@ -54,10 +53,10 @@ module _ (file : CFile) (earlier : List CFun) (function : CFun) (before : AreBef
   TargetBreaks target rule = (place : CPlace) × (target ≡ Some place) × PlaceBreaks place rule
 
   abbrev NameBad : List ℕ → Type 0
-  NameBad name = (¬ IsDeclared file function name) ⊎ Contains (var_names (function.params ++ function.vars)) name
+  NameBad name = (¬ IsDeclared file earlier function name) ⊎ Contains (var_names (function.params ++ function.vars)) name
 
   abbrev NameLate : List ℕ → Type 0
-  NameLate name = (callee : CFun) → StandsBefore file callee function → callee.inline ≡ true → callee.name ≢ name
+  NameLate name = (callee : CFun) → Contains earlier callee → callee.inline ≡ true → callee.name ≢ name
 
   abbrev NameBreaks : List ℕ → ℕ → Type 0
   NameBreaks name rule = ((rule ≡ 11) × NameBad name) ⊎ ((rule ≡ 19) × ((function.inline ≡ true) × NameLate name))
@@ -94,22 +93,19 @@ module _ (file : CFile) (earlier : List CFun) (function : CFun) (before : AreBef
       is_like (PlaceBreaks place) (TargetBreaks (Some place)) (of_place scope place) (λ rule bad. (place, refl, bad))
       (λ rule (other, is, bad). let this : other ≡ place = cc in subst (λ p. PlaceBreaks p rule) this bad) (place_least place)
 
-  declared_holds : (name : List ℕ) → Decides (is_declared file earlier function name) (IsDeclared file function name)
+  declared_holds : (name : List ℕ) → Decides (is_declared file earlier function name) (IsDeclared file earlier function name)
   declared_holds name =
-      let among = any_holds (is_named name) (λ other. other.name ≡ name) (λ other. bytes_eq-Decides other.name name) earlier in
-      let by_earlier : Decides (list_any (is_named name) earlier) ((other : CFun) × StandsBefore file other function × (other.name ≡ name)) =
-      Decides-like (list_any (is_named name) earlier) (λ (other, in_earlier, same). (other, (before other).1 in_earlier, same)) (λ (other, stands, same). (other, (before other).0 stands, same)) among in
       Decides-at (is_declared file earlier function name) (list_any (is_named name) file.protos || (is_named name function || list_any (is_named name) earlier))
       (reassociated (list_any (is_named name) file.protos) (is_named name function) (list_any (is_named name) earlier))
       (Decides-or (list_any (is_named name) file.protos) (is_named name function || list_any (is_named name) earlier) (any_named (λ (other : CFun). other.name) file.protos name)
-      (Decides-or (is_named name function) (list_any (is_named name) earlier) (bytes_eq-Decides function.name name) by_earlier))
+      (Decides-or (is_named name function) (list_any (is_named name) earlier) (bytes_eq-Decides function.name name) (any_named (λ (other : CFun). other.name) earlier name)))
 
   late_holds : (name : List ℕ) → Decides (not (is_inline_among earlier name)) (NameLate name)
   late_holds name =
       let among = any_holds (λ other. other.inline && is_named name other) (λ other. (other.inline ≡ true) × (other.name ≡ name))
       (λ other. Decides-and other.inline (is_named name other) (λ e. e, λ e. e) (bytes_eq-Decides other.name name)) earlier in
-      Decides-like (not (is_inline_among earlier name)) (λ none other stands inline same. none (other, (before other).0 stands, (inline, same)))
-      (λ late (other, in_earlier, (inline, same)). late other ((before other).1 in_earlier) inline same)
+      Decides-like (not (is_inline_among earlier name)) (λ none other of inline same. none (other, of, (inline, same)))
+      (λ late (other, of, (inline, same)). late other of inline same)
       (Decides-not (is_inline_among earlier name) among)
 
   name_least : (name : List ℕ) → IsLeast (NameBreaks name) (of_name file earlier function name)
@@ -166,20 +162,20 @@ module _ (file : CFile) (earlier : List CFun) (function : CFun) (before : AreBef
 
   -- From actions to rules -----------------------------------------------------------------------------------------------------
 
-  at11 : (rule : ℕ) → rule ≡ 11 → BreaksDeclared file function → BreaksInside file function rule
+  at11 : (rule : ℕ) → rule ≡ 11 → BreaksDeclared file earlier function → BreaksInside file earlier function rule
   at11 rule same broken = inr (inl (same, broken))
 
-  at14 : (rule : ℕ) → rule ≡ 14 → BreaksOperands file function → BreaksInside file function rule
+  at14 : (rule : ℕ) → rule ≡ 14 → BreaksOperands file function → BreaksInside file earlier function rule
   at14 rule same broken = inr (inr (inl (same, broken)))
 
-  at15 : (rule : ℕ) → rule ≡ 15 → BreaksValues file function → BreaksInside file function rule
+  at15 : (rule : ℕ) → rule ≡ 15 → BreaksValues file function → BreaksInside file earlier function rule
   at15 rule same broken = inr (inr (inr (inl (same, broken))))
 
-  from_expr : (rule : ℕ) (action : Action) (e : CExpr) → Contains acts action → HasExpr action e → ((name : List ℕ) → NamesRead e name → NamesVariable action name) → ExprBreaks e rule → BreaksInside file function rule
+  from_expr : (rule : ℕ) (action : Action) (e : CExpr) → Contains acts action → HasExpr action e → ((name : List ℕ) → NamesRead e name → NamesVariable action name) → ExprBreaks e rule → BreaksInside file earlier function rule
   from_expr rule action e among has reads (inl (same, (name, read, none))) = at11 rule same (inr (action, name, among, reads name read, none))
   from_expr rule action e among has reads (inr (same, misfit)) = at14 rule same (action, e, among, has, misfit)
 
-  from_call : (rule : ℕ) (target : Option CPlace) (name : List ℕ) (arguments : List CExpr) → Contains acts (Calls target name arguments) → Breaks (Calls target name arguments) rule → BreaksInside file function rule
+  from_call : (rule : ℕ) (target : Option CPlace) (name : List ℕ) (arguments : List CExpr) → Contains acts (Calls target name arguments) → Breaks (Calls target name arguments) rule → BreaksInside file earlier function rule
   from_call rule target name arguments among (inl (inl (same, bad))) = at11 rule same (inl (name, flat_in called_by acts (Calls target name arguments) name among (first_in name []), bad))
   from_call rule target name arguments among (inl (inr (same, (inline, late)))) =
       inr (inr (inr (inr (inr (inr (inr (inl (same, (inline, (name, flat_in called_by acts (Calls target name arguments) name among (first_in name []), late))))))))))
@@ -191,7 +187,7 @@ module _ (file : CFile) (earlier : List CFun) (function : CFun) (before : AreBef
   from_call rule target name arguments among (inr (inr (inr (callee, of, (named, inr (same, (place, is, misfit))))))) =
       inr (inr (inr (inr (inr (inl (same, (callee, place, arguments, (of, subst (λ w. Contains acts (Calls w callee.name arguments)) is (subst (λ w. Contains acts (Calls target w arguments)) (sym named) among)), misfit)))))))
 
-  from_act : (rule : ℕ) (action : Action) → Contains acts action → Breaks action rule → BreaksInside file function rule
+  from_act : (rule : ℕ) (action : Action) → Contains acts action → Breaks action rule → BreaksInside file earlier function rule
   from_act rule (Assigns place e) among (inl (same, (name, is, none))) = at11 rule same (inr (Assigns place e, name, among, inl is, none))
   from_act rule (Assigns place e) among (inr (inl broken)) = from_expr rule (Assigns place e) e among refl (λ name read. inr read) broken
   from_act rule (Assigns place e) among (inr (inr (same, wrong))) = at15 rule same (Assigns place e, among, wrong)
@@ -258,12 +254,12 @@ module _ (file : CFile) (earlier : List CFun) (function : CFun) (before : AreBef
   abbrev AllBreaks : ℕ → Type 0
   AllBreaks rule = ((rule ≡ 10) × BreaksLocalNames function) ⊎ (BodyBreaks rule ⊎ ((rule ≡ 21) × BreaksEnd function))
 
-  from_all : (rule : ℕ) → AllBreaks rule → BreaksInside file function rule
+  from_all : (rule : ℕ) → AllBreaks rule → BreaksInside file earlier function rule
   from_all rule (inl names) = inl names
   from_all rule (inr (inl (action, among, broken))) = from_act rule action among broken
   from_all rule (inr (inr ends)) = inr (inr (inr (inr (inr (inr (inr (inr ends)))))))
 
-  to_all : (rule : ℕ) → BreaksInside file function rule → AllBreaks rule
+  to_all : (rule : ℕ) → BreaksInside file earlier function rule → AllBreaks rule
   to_all rule (inl names) = inl names
   to_all rule (inr (inl (same, inl (name, of, bad)))) = inr (inl (to_called rule name (inl (same, bad)) of))
   to_all rule (inr (inl (same, inr (action, name, among, names, none)))) = inr (inl (action, among, to_read rule action name same names none))
@@ -284,10 +280,10 @@ module _ (file : CFile) (earlier : List CFun) (function : CFun) (before : AreBef
       (Decides-not (is_void function.result) (is_void_holds function.result)) (not_holds (last_is (map ends_function function.body)))
 
   -- the least rule that is told of a function is the least that it breaks
-  pub inside_least : (names ends : Bool) → Decides names (BreaksLocalNames function) → ends ≡ (not (is_void function.result) && not (last_is (map ends_function function.body))) → IsLeast (BreaksInside file function) (least (told 10 names) (least (of_block (rule_of file earlier function) function.body) (told 21 ends)))
+  pub inside_least : (names ends : Bool) → Decides names (BreaksLocalNames function) → ends ≡ (not (is_void function.result) && not (last_is (map ends_function function.body))) → IsLeast (BreaksInside file earlier function) (least (told 10 names) (least (of_block (rule_of file earlier function) function.body) (told 21 ends)))
   inside_least names ends local ended =
       let body = of_block (rule_of file earlier function) function.body in
-      is_like AllBreaks (BreaksInside file function) (least (told 10 names) (least body (told 21 ends))) from_all to_all
+      is_like AllBreaks (BreaksInside file earlier function) (least (told 10 names) (least body (told 21 ends))) from_all to_all
       (is_least (λ rule. (rule ≡ 10) × BreaksLocalNames function) (λ rule. BodyBreaks rule ⊎ ((rule ≡ 21) × BreaksEnd function)) (told 10 names) (least body (told 21 ends))
       (is_told (BreaksLocalNames function) 10 names local)
       (is_least BodyBreaks (λ rule. (rule ≡ 21) × BreaksEnd function) body (told 21 ends)

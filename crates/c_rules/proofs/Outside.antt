@@ -19,7 +19,7 @@ use Rattle.c_rules.specs.Protos.{same_var, same_vars, are_alike, is_empty, is_st
 use Rattle.c_rules.specs.Sizes.{is_count_wrong, is_too_large, sizes_broken}
 use Rattle.c_rules.proofs.Anys.{any_holds}
 use Rattle.c_rules.proofs.Holds.{never, same_type_holds, not_holds}
-use Rattle.c_rules.proofs.Leasts.{is_told, is_least, is_like}
+use Rattle.c_rules.proofs.Leasts.{is_told, is_least}
 use Rattle.c_rules.proofs.Walks.{behind_same}
 
 -- Sizes -------------------------------------------------------------------------------------------------------------------
@@ -136,11 +136,11 @@ module _ (file : CFile) where
       (any_holds (lacks_function file.functions) (λ proto. (function : CFun) → Contains file.functions function → function.inline ≡ false → ¬ AreAlike proto function) function_lacks file.protos))
       start_lacks)
 
-  -- the least rule that is broken outside functions, where no names clash
-  pub outside_least : (sizes protos : Bool) → ¬ BreaksNames file → sizes ≡ sizes_broken file → protos ≡ protos_broken file → IsLeast (BreaksOutside file) (least (told 13 sizes) (told 22 protos))
-  outside_least sizes protos free of_sizes of_protos =
-      is_like (λ rule. ((rule ≡ 13) × BreaksSizes file) ⊎ ((rule ≡ 22) × BreaksPrototypes file)) (BreaksOutside file) (least (told 13 sizes) (told 22 protos))
-      (λ rule broken. inr broken) (λ rule broken. ⊎_elim (λ (same, names). absurd (free names)) (λ other. other) broken)
+  -- the least rule that is broken outside functions
+  pub outside_least : (names sizes protos : Bool) → Decides names (BreaksNames file) → sizes ≡ sizes_broken file → protos ≡ protos_broken file → IsLeast (BreaksOutside file) (least (told 10 names) (least (told 13 sizes) (told 22 protos)))
+  outside_least names sizes protos of_names of_sizes of_protos =
+      is_least (λ rule. (rule ≡ 10) × BreaksNames file) (λ rule. ((rule ≡ 13) × BreaksSizes file) ⊎ ((rule ≡ 22) × BreaksPrototypes file)) (told 10 names) (least (told 13 sizes) (told 22 protos))
+      (is_told (BreaksNames file) 10 names of_names)
       (is_least (λ rule. (rule ≡ 13) × BreaksSizes file) (λ rule. (rule ≡ 22) × BreaksPrototypes file) (told 13 sizes) (told 22 protos)
       (is_told (BreaksSizes file) 13 sizes (Decides-at sizes (sizes_broken file) of_sizes (sizes_hold file)))
       (is_told (BreaksPrototypes file) 22 protos (Decides-at protos (protos_broken file) of_protos protos_hold)))

@@ -37,7 +37,7 @@ abbrev pub result_misfits : Scope → Option CPlace → CType → Bool
 result_misfits scope None result = false
 result_misfits scope (Some place) result = is_void result || is_other (type_of_place scope place) result
 
--- a name is declared where a function calls it, when these functions stand before it
+-- a name is declared where a function calls it that stands behind these
 abbrev pub is_declared : CFile → List CFun → CFun → List ℕ → Bool
 is_declared file earlier function name = list_any (is_named name) file.protos || is_named name function || list_any (is_named name) earlier
 

@@ -1,11 +1,8 @@
 // The check of a file.
 ghost use Rattle.std.specs.Prelude.{◌≡◌, IfOk};
-ghost use Rattle.std.specs.List.{list_any};
-ghost use Rattle.std.specs.Prelude.{nat_lt};
-ghost use Rattle.c_tree.specs.Rules.{Breaks, BreaksNames};
-ghost use Rattle.c_tree.specs.Text.{first_line};
+ghost use Rattle.c_tree.specs.Rules.{Breaks, BreaksOutside};
 ghost use Rattle.c_rules.specs.Checking.{Checks};
-ghost use Rattle.c_rules.specs.Least.{IsFirst};
+ghost use Rattle.c_rules.specs.Least.{IsFirst, IsLeast};
 
 use crate::bodies::Around;
 use crate::inside::least_inside;
@@ -13,7 +10,7 @@ use crate::least::{least, sooner, told};
 use crate::names::breaks_names;
 use crate::protos::breaks_prototypes;
 use crate::sizes::breaks_sizes;
-use c_tree::{CFault, CFile, CFun, NotC};
+use c_tree::{CFault, CFile, NotC};
 use sl_text::Mem;
 use std::alloc::Global;
 
@@ -30,8 +27,7 @@ impl Checked {
     /// A file that breaks no rule, or its first broken rule: the one on the least line, and of those on one line the one with the
     /// least number. A refusal drops the file.
     ///
-    /// `Err(CFault::Mem)` where memory runs out; also where names clash outside functions (rule 10) while a function has a line
-    /// below 7, as functions of a tree have that is built and not read from a text.
+    /// `Err(CFault::Mem)` comes only where memory runs out. The contract doesn't say so: it leaves that answer free.
     pub fn check(alloc: Global, file: CFile) -> Result<Checked, CFault>
         ensures { Checks file result }
     {
@@ -49,39 +45,11 @@ impl Checked {
     }
 }
 
-/// The first rule that a file breaks. Names that clash are told on the first line, before all else. Where a function stands on
-/// an earlier line, which none does that was read from a text, that isn't sure, and the check gives up as without memory.
+/// The first rule that a file breaks.
 fn first_broken(alloc: Global, file: &CFile) -> Result<Option<NotC>, Mem>
     ensures { IfOk result (λ first. IsFirst (Breaks file.now) first) }
 {
-    if !breaks_names(alloc, file)? {
-        return first_apart(alloc, file);
-    }
-    if has_early_line(file.functions.as_slice()) {
-        return Err(Mem);
-    }
-    Ok(Some(NotC {
-        line: FIRST_LINE,
-        rule: 10,
-    }))
-}
-
-/// A function stands before the first line of a text.
-fn has_early_line(functions: &[CFun]) -> bool
-    ensures { result ≡ list_any (λ function. nat_lt function.line first_line) functions.now }
-{
-    functions.iter().any(|function| function.line < FIRST_LINE)
-}
-
-/// The first rule that a file breaks whose names don't clash.
-fn first_apart(alloc: Global, file: &CFile) -> Result<Option<NotC>, Mem>
-    requires { ¬ BreaksNames file.now }
-    ensures { IfOk result (λ first. IsFirst (Breaks file.now) first) }
-{
-    let sizes = breaks_sizes(file);
-    let protos = breaks_prototypes(file);
-    let outside = least(told(13, sizes), told(22, protos));
-    let mut best = sooner(None, FIRST_LINE, outside);
+    let mut best = sooner(None, FIRST_LINE, least_outside(alloc, file)?);
     let functions = file.functions.as_slice();
     for (index, function) in functions.iter().enumerate() {
         let earlier = &functions[..index];
@@ -93,4 +61,15 @@ fn first_apart(alloc: Global, file: &CFile) -> Result<Option<NotC>, Mem>
         best = sooner(best, function.line, least_inside(alloc, &around)?);
     }
     Ok(best)
+}
+
+/// The least rule that is broken outside functions.
+fn least_outside(alloc: Global, file: &CFile) -> Result<Option<u8>, Mem>
+    ensures { IfOk result (λ rule. IsLeast (BreaksOutside file.now) rule) }
+{
+    let names = breaks_names(alloc, file)?;
+    let sizes = breaks_sizes(file);
+    let protos = breaks_prototypes(file);
+    let behind = least(told(13, sizes), told(22, protos));
+    Ok(least(told(10, names), behind))
 }

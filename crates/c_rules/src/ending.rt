@@ -15,7 +15,7 @@ pub fn breaks_end(function: &CFun) -> bool
 /// Whether nothing comes behind the last statement of a block.
 #[cycle(ending)]
 #[tactic(auto, using(crate::proofs::LastOf::ends_all))]
-fn block_ends(block: &[CStmt]) -> bool
+pub fn block_ends(block: &[CStmt]) -> bool
     ensures { result ≡ last_is (map ends_function block.now) }
 {
     if let Some((last, _)) = block.split_last() {

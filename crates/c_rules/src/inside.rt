@@ -1,7 +1,6 @@
 // What a function breaks.
 ghost use Rattle.std.specs.Prelude.{IfOk};
 ghost use Rattle.c_tree.specs.Rules.{BreaksInside};
-ghost use Rattle.c_rules.specs.Inside.{AreBefore};
 ghost use Rattle.c_rules.specs.Least.{IsLeast};
 
 use crate::bodies::{Around, of_block};
@@ -13,7 +12,7 @@ use std::alloc::Global;
 
 /// The least rule that a function breaks.
 pub fn least_inside(alloc: Global, around: &Around) -> Result<Option<u8>, Mem>
-    ensures { IfOk result (λ rule. AreBefore around.now.file.now around.now.earlier.now around.now.function.now → IsLeast (BreaksInside around.now.file.now around.now.function.now) rule) }
+    ensures { IfOk result (λ rule. IsLeast (BreaksInside around.now.file.now around.now.earlier.now around.now.function.now) rule) }
 {
     let function = around.function;
     let names = breaks_local_names(alloc, function)?;

@@ -12,6 +12,7 @@ mod sizes;
 mod types;
 
 pub use checking::Checked;
+pub use ending::block_ends;
 
 #[cfg(test)]
 mod tests;

@@ -124,6 +124,18 @@ fn names_clash_outside(rt: HostRuntime) -> Result<(), Fail> {
 }
 
 #[test]
+fn of_two_alike_the_first_is_told(rt: HostRuntime) -> Result<(), Fail> {
+    let alloc = rt.alloc();
+    let mut first = helper(alloc, "h", one(alloc, bare_call(alloc, "h")?)?)?;
+    let mut second = helper(alloc, "h", one(alloc, bare_call(alloc, "h")?)?)?;
+    first.line = 3;
+    second.line = 3;
+    let file = file_of(alloc, two(alloc, first, second)?)?;
+    assert_eq!(rt; Checked::check(alloc, file).err(), broken(19, 3));
+    Ok(())
+}
+
+#[test]
 fn names_clash_inside(rt: HostRuntime) -> Result<(), Fail> {
     let alloc = rt.alloc();
     let mut main = start(alloc, one(alloc, give())?)?;

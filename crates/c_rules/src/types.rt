@@ -8,8 +8,8 @@ ghost use Rattle.c_rules.specs.Types.{are_other, is_no_word, is_other, is_void, 
 use c_tree::{CExpr, CFile, CFun, CPlace, CType, CVar};
 use sl_text::Text;
 
-/// What is known of an expression: its type, where what it names is declared, whether operands in it fit their operators, and
-/// whether it reads a variable that isn't declared.
+/// What is known of an expression: its type, where it has one, whether operands in it fit their operators, and whether it reads a
+/// variable that isn't declared.
 #[derive(Drop)]
 pub struct Known {
     pub kind: Option<CType>,

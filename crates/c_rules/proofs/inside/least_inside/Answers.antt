@@ -6,12 +6,13 @@ use Rattle.c_rules.proofs.Decided.{inside_least}
 use Rattle.c_rules.proofs.inside.least_inside.Goals as goal
 
 pub returns : goal.returns
-returns c = λ before.
+returns c =
     let file = c.args.around.now.file.now in
+    let earlier = c.args.around.now.earlier.now in
     let function = c.args.around.now.function.now in
-    let rule = rule_of file c.args.around.now.earlier.now function in
+    let rule = rule_of file earlier function in
     let body = c.of_block-body.ensures ∙ ap (of_block rule) c.as_slice.ensures in
     let behind = c.least-behind.ensures ∙ (ap (λ left. least left c.told.result) body ∙ ap (least (of_block rule function.body)) c.told.ensures) in
     let whole = c.least.ensures ∙ (ap (λ left. least left c.least-behind.result) c.told-2.ensures ∙ ap (least (told 10 c.in_ok-names.names)) behind) in
-    subst (IsLeast (BreaksInside file function)) (sym whole)
-    (inside_least file c.args.around.now.earlier.now function before c.in_ok-names.names c.breaks_end-ends.result c.in_ok-names.ensures c.breaks_end-ends.ensures)
+    subst (IsLeast (BreaksInside file earlier function)) (sym whole)
+    (inside_least file earlier function c.in_ok-names.names c.breaks_end-ends.result c.in_ok-names.ensures c.breaks_end-ends.ensures)
