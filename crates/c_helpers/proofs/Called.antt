@@ -18,6 +18,7 @@ use Rattle.c_helpers.specs.Functions.{constant, named, greatest, least, minus_on
 use Rattle.c_helpers.specs.Laws.{Gives, Laws}
 use Rattle.c_helpers.proofs.Frame.{scope_in, two, Yields, Returns, yields_constant, yields_a, yields_b, yields_comparison, yields_sum, yields_difference, yields_quotient, yields_remainder, yields_greatest, yields_least, yields_minus_one, returns_value, returns_by, gives_returned}
 use Rattle.c_helpers.proofs.Sums.{Bounded, bounds, least_less, least_less_tells, greatest_less, greatest_less_tells, greatest_more, greatest_more_tells, least_more, least_more_tells}
+use Rattle.c_helpers.proofs.Standing.{all_formed, all_nest_little, all_keep}
 use Rattle.c_helpers.proofs.Printed.{prints, digit_reached}
 use Rattle.c_helpers.proofs.Quotients.{not_zero, is_same, is_other, greatest_by, greatest_by_tells, least_by, least_by_tells, least_by_tells_second, greatest_by_negative, greatest_by_negative_tells, product_by_zero, quotient_by_minus_one, other_quotient, remainder_fits, remainder_by_minus_one}
 
@@ -148,6 +149,9 @@ pub laws : Laws
 laws = record {
   inline = are_inline;
   names = names_differ;
+  formed = all_formed;
+  nesting = all_nest_little;
+  keep = all_keep;
   sum = gives_sum;
   difference = gives_difference;
   product = gives_product;

@@ -5,3 +5,8 @@ pub mod Called
 pub mod Examples
 pub mod Decimal
 pub mod Printed
+pub mod Keeping
+pub mod Composing
+pub mod Names
+pub mod Good
+pub mod Standing

@@ -1,11 +1,13 @@
 -- What calls of the inline functions give.
-use Rattle.std.specs.Prelude.{◌≡◌, ◌≢◌, ℤ, pos, ◌+ℤ◌, ◌-ℤ◌, ◌*ℤ◌, int_div, int_rem, IsTrue, true, List, [], ◌∷◌, ◌++◌, None, Some, All, map, codes}
+use Rattle.std.specs.Prelude.{◌≡◌, ◌≢◌, ℕ, ◌≤◌, ℤ, pos, ◌+ℤ◌, ◌-ℤ◌, ◌*ℤ◌, int_div, int_rem, IsTrue, true, List, [], ◌∷◌, ◌++◌, None, Some, All, map, codes}
 use Rattle.std.specs.Fmt.{signed_decimal}
 use Rattle.std.specs.List.{IsDistinct}
 use Rattle.std.specs.Str.{bytes_eq}
 use Rattle.sl_run.specs.Run.{Puts, Trace, Went, ◌>>◌}
 use Rattle.c_tree.specs.declared.tree.CFile.{CFile}
 use Rattle.c_tree.specs.declared.tree.CFun.{CFun}
+use Rattle.c_tree.specs.WellFormed.{IsFunction, stmt_depth}
+use Rattle.c_tree.specs.Rules.{BreaksInside}
 use Rattle.c_tree.specs.Memory.{Tree, Memory, Number}
 use Rattle.c_tree.specs.Meaning.{Callees, is_int64, truth, begin_inline, inline_callees, body}
 use Rattle.c_helpers.specs.Functions.{sum_fits, difference_fits, product_fits, quotient_fits, remainder, digit, print, helper_functions}
@@ -28,11 +30,20 @@ Prints file a =
     (call : Callees) (t : Trace) (memory : Memory) → Reaches file call
     → (begin_inline print (Number a ∷ []) >> body file print call) t memory ≡ Went None (record t { events = t.events ++ map Puts (signed_decimal a) }) memory
 
--- The functions are inline and have names that differ, so that a name is that of one of them; and what calls give on any two
--- numbers of 64 bits, in any file
+-- a function hasn't the name of `sl_digit`
+abbrev pub IsOther : CFun → Type 0
+IsOther other = other.name ≢ codes "sl_digit"
+
+-- The functions are inline and have names that differ, so that a name is that of one of them; a text can have them; where they
+-- stand in front in a file, and no function behind them has the name that `sl_print` calls, they break no rule; and what calls give
+-- on any two numbers of 64 bits, in any file
 pub record Laws : Type 0 where
   pub inline : All (λ function. function.inline ≡ true) helper_functions
   pub names : IsDistinct bytes_eq (map (λ function. function.name) helper_functions)
+  pub formed : All IsFunction helper_functions
+  pub nesting : All (λ function. All (λ s. stmt_depth s ≤ 1024) function.body) helper_functions
+  pub keep : (file : CFile) (others : List CFun) → file.functions ≡ helper_functions ++ others → All IsOther others
+      → (before behind : List CFun) (function : CFun) → helper_functions ≡ before ++ function ∷ behind → (rule : ℕ) → ¬ BreaksInside file before function rule
   pub sum : (file : CFile) (a b : ℤ) → IsTrue (is_int64 a) → IsTrue (is_int64 b) → Gives file sum_fits (a ∷ b ∷ []) (truth (is_int64 (a +ℤ b)))
   pub difference : (file : CFile) (a b : ℤ) → IsTrue (is_int64 a) → IsTrue (is_int64 b) → Gives file difference_fits (a ∷ b ∷ []) (truth (is_int64 (a -ℤ b)))
   pub product : (file : CFile) (a b : ℤ) → IsTrue (is_int64 a) → IsTrue (is_int64 b) → Gives file product_fits (a ∷ b ∷ []) (truth (is_int64 (a *ℤ b)))

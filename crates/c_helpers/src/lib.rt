@@ -14,6 +14,7 @@ use building::{
     build_difference_fits, build_product_fits, build_quotient_fits, build_remainder, build_sum_fits,
 };
 use c_tree::CFun;
+pub use parts::{compare, constant, negate, operate};
 use printing::{build_digit, build_print};
 use sl_text::{Mem, Row};
 use std::alloc::Global;
