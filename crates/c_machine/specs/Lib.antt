@@ -1,0 +1,9 @@
+pub mod State
+pub mod Values
+pub mod Meaning
+pub mod Naming
+pub mod Related
+pub mod Resolved
+pub mod Resume
+pub mod Stepped
+pub mod Ran

@@ -1,0 +1,96 @@
+use crate::{End, Expr, Function, Machine, Program, Slot, State, StepFault, Stmt};
+use sl_outside::{MemorySink, SureSource};
+use sl_text::{Row, Shared};
+use std::alloc::{AllocError, Global};
+use std::test::Fail;
+
+/// A program whose first function has one variable and these statements. Its second one puts its argument, and gives 7.
+fn program(alloc: Global, body: Row<Stmt>) -> Result<Program, AllocError> {
+    let mut second = Row::new(alloc);
+    second.push(Stmt::Put(Expr::Read(Slot::Local(0), true)))?;
+    second.push(Stmt::Return(Some(Expr::Const(true, 7))))?;
+    let mut functions = Row::new(alloc);
+    functions.push(Function {
+        vars: 1,
+        gives: true,
+        body: Shared::new(alloc, body)?,
+    })?;
+    functions.push(Function {
+        vars: 0,
+        gives: true,
+        body: Shared::new(alloc, second)?,
+    })?;
+    Ok(Program {
+        globals: 0,
+        functions,
+        start: Some(0),
+    })
+}
+
+/// Calls the second function with 65, and returns what it gives.
+fn calling(alloc: Global) -> Result<Program, AllocError> {
+    let mut arguments = Row::new(alloc);
+    arguments.push(Expr::Const(true, 65))?;
+    let mut body = Row::new(alloc);
+    body.push(Stmt::Call(Some(Slot::Local(0)), arguments, 1))?;
+    body.push(Stmt::Return(Some(Expr::Read(Slot::Local(0), true))))?;
+    program(alloc, body)
+}
+
+fn with(alloc: Global, stmt: Stmt) -> Result<Program, AllocError> {
+    let mut body = Row::new(alloc);
+    body.push(stmt)?;
+    program(alloc, body)
+}
+
+#[test]
+fn a_call_puts_and_gives(rt: HostRuntime) -> Result<(), Fail> {
+    let alloc = rt.alloc();
+    let mut machine = Machine::begin(alloc, calling(alloc)?, 3)?;
+    let mut input = SureSource::new(Row::new(alloc));
+    let mut out = MemorySink::new(alloc, 8, Row::new(alloc))?;
+    assert!(rt; machine.run(alloc, &mut input, &mut out) == Ok(End::Done(7)));
+    assert_eq!(rt; out.bytes(), b"A".as_slice());
+    assert_eq!(rt; machine.report().turns, 1);
+    assert!(rt; machine.step(alloc, &mut input, &mut out) == Ok(State::Ended(End::Done(7))));
+    assert_eq!(rt; out.bytes(), b"A".as_slice());
+    Ok(())
+}
+
+#[test]
+fn a_call_needs_a_turn(rt: HostRuntime) -> Result<(), Fail> {
+    let alloc = rt.alloc();
+    let mut machine = Machine::begin(alloc, calling(alloc)?, 0)?;
+    let mut input = SureSource::new(Row::new(alloc));
+    let mut out = MemorySink::new(alloc, 8, Row::new(alloc))?;
+    assert!(rt; machine.run(alloc, &mut input, &mut out) == Ok(End::TurnsSpent));
+    assert_eq!(rt; out.bytes(), b"".as_slice());
+    assert_eq!(rt; machine.report().turns, 0);
+    Ok(())
+}
+
+#[test]
+fn a_halt_and_an_undefined_case_end_a_run(rt: HostRuntime) -> Result<(), Fail> {
+    let alloc = rt.alloc();
+    let mut input = SureSource::new(Row::new(alloc));
+    let mut out = MemorySink::new(alloc, 8, Row::new(alloc))?;
+    let mut halting = Machine::begin(alloc, with(alloc, Stmt::Halt(1, 2, 3))?, 9)?;
+    assert!(rt; halting.run(alloc, &mut input, &mut out) == Ok(End::Halt(1, 2, 3)));
+    let unwritten = Stmt::Return(Some(Expr::Read(Slot::Local(0), true)));
+    let mut stuck = Machine::begin(alloc, with(alloc, unwritten)?, 9)?;
+    assert!(rt; stuck.run(alloc, &mut input, &mut out) == Ok(End::Stuck(0)));
+    Ok(())
+}
+
+#[test]
+fn a_refused_put_is_told_again(rt: HostRuntime) -> Result<(), Fail> {
+    let alloc = rt.alloc();
+    let mut machine = Machine::begin(alloc, calling(alloc)?, 3)?;
+    let mut input = SureSource::new(Row::new(alloc));
+    let mut full = MemorySink::new(alloc, 0, Row::new(alloc))?;
+    assert!(rt; machine.run(alloc, &mut input, &mut full) == Err(StepFault::Sink));
+    let mut out = MemorySink::new(alloc, 8, Row::new(alloc))?;
+    assert!(rt; machine.step(alloc, &mut input, &mut out) == Err(StepFault::Sink));
+    assert_eq!(rt; out.bytes(), b"".as_slice());
+    Ok(())
+}
