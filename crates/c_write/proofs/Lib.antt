@@ -6,3 +6,4 @@ pub mod Tokens
 pub mod Lines
 pub mod TextReads
 pub mod Writing
+pub mod Relined
