@@ -1,0 +1,13 @@
+pub mod Injective
+pub mod Distinct
+pub mod Names
+pub mod Layers
+pub mod Tests
+pub mod Scopes
+pub mod Inside
+pub mod Codes
+pub mod Blocks
+pub mod Lists
+pub mod Needs
+pub mod Functions
+pub mod Files

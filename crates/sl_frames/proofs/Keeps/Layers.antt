@@ -1,0 +1,39 @@
+-- What is known of the expressions and statements of a core, layer by layer.
+use Rattle.std.proofs.Common.{◌≡◌, ℕ, Bool, Option}
+use Rattle.sl_core.specs.declared.tree.Core.{Core}
+use Rattle.sl_core.specs.declared.tree.CoreFun.{CoreFun}
+use Rattle.sl_core.specs.declared.tree.CoreExpr.{CoreExpr, CoreExpr-F, fold-roll-CoreExpr, map-CoreExpr, roll-CoreExpr}
+use Rattle.sl_core.specs.declared.tree.CoreStmt.{CoreStmt, CoreStmt-F, fold-roll-CoreStmt, map-CoreStmt, roll-CoreStmt}
+use Rattle.sl_core.specs.Sound.{Kind, kind_step, kind_of, fits_step, fits, expr_range_step, expr_in_range, stmt_range_step, stmt_in_range, expr_depth_step, expr_depth, stmt_depth_step, stmt_depth}
+
+-- what an expression gives
+pub kind_layer : (core : Core) (function : CoreFun) (x : CoreExpr-F CoreExpr)
+    → kind_of core function (roll-CoreExpr x) ≡ kind_step core function (map-CoreExpr CoreExpr (Option Kind) (kind_of core function) x)
+unfolding kind_of
+kind_layer core function x = fold-roll-CoreExpr (Option Kind) (kind_step core function) x
+
+-- whether its numbers are in range
+pub expr_range_layer : (x : CoreExpr-F CoreExpr) → expr_in_range (roll-CoreExpr x) ≡ expr_range_step (map-CoreExpr CoreExpr Bool expr_in_range x)
+unfolding expr_in_range
+expr_range_layer x = fold-roll-CoreExpr Bool expr_range_step x
+
+-- how deep it nests
+pub expr_depth_layer : (x : CoreExpr-F CoreExpr) → expr_depth (roll-CoreExpr x) ≡ expr_depth_step (map-CoreExpr CoreExpr ℕ expr_depth x)
+unfolding expr_depth
+expr_depth_layer x = fold-roll-CoreExpr ℕ expr_depth_step x
+
+-- whether the types in a statement fit
+pub fits_layer : (core : Core) (function : CoreFun) (x : CoreStmt-F CoreStmt)
+    → fits core function (roll-CoreStmt x) ≡ fits_step core function (map-CoreStmt CoreStmt Bool (fits core function) x)
+unfolding fits
+fits_layer core function x = fold-roll-CoreStmt Bool (fits_step core function) x
+
+-- whether its numbers are in range
+pub stmt_range_layer : (x : CoreStmt-F CoreStmt) → stmt_in_range (roll-CoreStmt x) ≡ stmt_range_step (map-CoreStmt CoreStmt Bool stmt_in_range x)
+unfolding stmt_in_range
+stmt_range_layer x = fold-roll-CoreStmt Bool stmt_range_step x
+
+-- how deep it nests
+pub stmt_depth_layer : (x : CoreStmt-F CoreStmt) → stmt_depth (roll-CoreStmt x) ≡ stmt_depth_step (map-CoreStmt CoreStmt ℕ stmt_depth x)
+unfolding stmt_depth
+stmt_depth_layer x = fold-roll-CoreStmt ℕ stmt_depth_step x

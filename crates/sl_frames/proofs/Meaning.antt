@@ -1,0 +1,16 @@
+pub mod Places
+pub mod Frames
+pub mod Helped
+pub mod Operations
+pub mod Related
+pub mod Kinds
+pub mod Expressions
+pub mod Evaluating
+pub mod Following
+pub mod Needs
+pub mod Statements
+pub mod Finding
+pub mod Naming
+pub mod Calling
+pub mod Functions
+pub mod Runs

@@ -1,0 +1,4 @@
+pub mod Names
+pub mod Translated
+pub mod Promise
+pub mod Operations
