@@ -1,0 +1,155 @@
+-- How deep the core of a plain program nests.
+use Rattle.std.proofs.Common.{◌≡◌, ℕ, suc, ◌+◌, ◌≤◌, List, [], ◌∷◌, ◌++◌, map, max, Option, Some, None, codes, refl, sym, subst, ap, arith, le_trans}
+use Rattle.std.specs.List.{fold, AllByRecursion}
+use Rattle.sl_core.specs.declared.tree.CoreExpr.{CoreExpr}
+use Rattle.sl_core.specs.declared.tree.CoreExpr.TheVariants as expr
+use Rattle.sl_core.specs.declared.tree.CoreStmt.{CoreStmt}
+use Rattle.sl_core.specs.declared.tree.CoreStmt.TheVariants as core
+use Rattle.sl_core.specs.Sound.{expr_depth, stmt_depth, greatest}
+use Rattle.sl_core.specs.Meaning.{truth}
+use Rattle.sl_plain.specs.declared.line.Kind.{Kind}
+use Rattle.sl_plain.specs.declared.line.Kind.TheVariants as kind
+use Rattle.sl_plain.specs.declared.line.Atom.{Atom}
+use Rattle.sl_plain.specs.declared.line.Atom.TheVariants.{Name, Number, Truth}
+use Rattle.sl_plain.specs.declared.line.Right.{Right}
+use Rattle.sl_plain.specs.declared.line.Right.TheVariants.{Just, Compare, Apply}
+use Rattle.sl_plain.specs.declared.line.Condition.{Condition}
+use Rattle.sl_plain.specs.declared.line.Condition.TheVariants as condition
+use Rattle.sl_plain.specs.declared.tree.Stmt.{Stmt, Stmt-F, ind-Stmt, map-Stmt, roll-Stmt}
+use Rattle.sl_plain.specs.declared.tree.Stmt.TheOpen as stmt
+use Rattle.sl_plain.specs.Plain.{Declared, deepest, depth_step, depth, kind_of_atom}
+use Rattle.sl_plain.specs.Means.{assert_halt, halt_halt}
+use Rattle.sl_plain.specs.Lowered.{path_of, atom_expr, right_expr, condition_expr, put_text, print_of, Lowered, in_order, count_of, lowered_step, lowered, z}
+use Rattle.sl_plain.proofs.Layers.{depth_layer, lowered_layer}
+use Rattle.sl_plain.proofs.Names.{all_append, all_so}
+use Rattle.sl_plain.proofs.CoreLayers.{number_depth, text_depth, path_depth, apply_depth, compare_depth, store_depth, if_depth, put_depth, halt_depth}
+
+-- the greatest of some is no more than what bounds them all
+pub greatest_within : (n a : ℕ) (xs : List ℕ) → a ≤ n → AllByRecursion (λ x. x ≤ n) xs → fold max a xs ≤ n
+greatest_within n a [] le all = le
+greatest_within n a (x ∷ xs) le all = greatest_within n (max a x) xs (let first = all.0 in omega arith) all.1
+
+-- it bounds them all
+greatest_above : (a : ℕ) (xs : List ℕ) → a ≤ fold max a xs
+greatest_above a [] = omega arith
+greatest_above a (x ∷ xs) = let rest = greatest_above (max a x) xs in omega arith
+
+pub greatest_bounds : (a : ℕ) (xs : List ℕ) → AllByRecursion (λ x. x ≤ fold max a xs) xs
+greatest_bounds a [] = tt
+greatest_bounds a (x ∷ xs) = (let rest = greatest_above (max a x) xs in omega arith, greatest_bounds (max a x) xs)
+
+-- what is so of what each is mapped to
+all_of_map : {A B : Type 0} (P : B → Type 0) (f : A → B) (xs : List A) → AllByRecursion P (map f xs) → AllByRecursion (λ x. P (f x)) xs
+all_of_map P f [] all = tt
+all_of_map P f (x ∷ xs) all = (all.0, all_of_map P f xs all.1)
+
+all_to_map : {A B : Type 0} (P : B → Type 0) (f : A → B) (xs : List A) → AllByRecursion (λ x. P (f x)) xs → AllByRecursion P (map f xs)
+all_to_map P f [] all = tt
+all_to_map P f (x ∷ xs) all = (all.0, all_to_map P f xs all.1)
+
+module _ (names : List Declared) where
+  -- an atom
+  pub atom_depth : (atom : Atom) → expr_depth (atom_expr names atom) ≡ 1
+  atom_depth (Name name) = path_depth (path_of names name) z
+  atom_depth (Number number) = number_depth number z
+  atom_depth (Truth so) = number_depth (truth so) z
+
+  -- a right side, and a condition
+  right_depth : (line : ℕ) (right : Right) → expr_depth (right_expr names line right) ≤ 2
+  right_depth line (Just atom) = let is = atom_depth atom in omega arith
+  right_depth line (Compare by a b) = let is = compare_depth by (atom_expr names a) (atom_expr names b) z in let left = atom_depth a in let right = atom_depth b in omega arith
+  right_depth line (Apply op a b) = let is = apply_depth op (atom_expr names a) (atom_expr names b) z 0 line in let left = atom_depth a in let right = atom_depth b in omega arith
+
+  condition_depth : (test : Condition) → expr_depth (condition_expr names test) ≤ 2
+  condition_depth (condition.Just atom) = let is = atom_depth atom in omega arith
+  condition_depth (condition.Compare by a b) = let is = compare_depth by (atom_expr names a) (atom_expr names b) z in let left = atom_depth a in let right = atom_depth b in omega arith
+
+  -- statements of the core nest at most so deep
+  abbrev pub Shallow : ℕ → List CoreStmt → Type 0
+  Shallow n stmts = AllByRecursion (λ s. stmt_depth s ≤ n) stmts
+
+  shallow_greatest : (n : ℕ) (stmts : List CoreStmt) → Shallow n stmts → greatest (map stmt_depth stmts) ≤ n
+  shallow_greatest n stmts all = greatest_within n 0 (map stmt_depth stmts) (omega arith) (all_to_map (λ d. d ≤ n) stmt_depth stmts all)
+
+  -- a choice nests one deeper
+  choice_shallow : (n : ℕ) (test : CoreExpr) (chosen other : List CoreStmt) → expr_depth test ≤ n → Shallow n chosen → Shallow n other → Shallow (suc n) (core.If test chosen other ∷ [])
+  choice_shallow n test chosen other le a b =
+      let is = if_depth test chosen other in
+      let first = shallow_greatest n chosen a in
+      let second = shallow_greatest n other b
+      in (omega arith, tt)
+
+  store_shallow : (line : ℕ) (name : List ℕ) (right : Right) → Shallow 3 (core.Store (path_of names name) (right_expr names line right) ∷ [])
+  store_shallow line name right = let is = store_depth (path_of names name) (right_expr names line right) in let le = right_depth line right in (omega arith, tt)
+
+  text_shallow : (n : ℕ) (text : List ℕ) → 2 ≤ n → Shallow n (put_text text ∷ [])
+  text_shallow n text le = let is = put_depth (expr.TextOf text) in let of = text_depth text in (omega arith, tt)
+
+  -- what is known of a statement
+  abbrev Claim : Stmt → Type 0
+  Claim s = (line : ℕ) → Shallow (depth s + 3) ((lowered names s).from line)
+
+  abbrev Known : Type 0
+  Known = (s : Stmt) × Claim s
+
+  abbrev first : Known → Stmt
+  first known = known.0
+
+  more : (m n : ℕ) → m ≤ n → (stmts : List CoreStmt) → Shallow m stmts → Shallow n stmts
+  more m n le stmts all = all_so (λ s. stmt_depth s ≤ m) (λ s. stmt_depth s ≤ n) (λ s h. le_trans h le) stmts all
+
+  block : (n : ℕ) (ks : List Known) → AllByRecursion (λ d. d ≤ n) (map depth (map first ks)) → (line : ℕ) → Shallow (n + 3) (in_order (map (lowered names) (map first ks)) line)
+  block n [] all line = tt
+  block n (k ∷ ks) all line =
+      all_append (λ s. stmt_depth s ≤ n + 3) ((lowered names k.0).from line) (in_order (map (lowered names) (map first ks)) (line + (lowered names k.0).count))
+      (more (depth k.0 + 3) (n + 3) (let le = all.0 in omega arith) ((lowered names k.0).from line) (k.1 line))
+      (block n ks all.1 (line + (lowered names k.0).count))
+
+  -- every statement
+  claim : (s : Stmt) → Claim s
+  claim s = ind-Stmt Claim (λ x y same. subst (λ z. Claim (roll-Stmt z)) same (layer y)) s
+    where
+      via : (x : Stmt-F Stmt) → ((line : ℕ) → Shallow (depth_step (map-Stmt Stmt ℕ depth x) + 3) ((lowered_step names (map-Stmt Stmt Lowered (lowered names) x)).from line)) → Claim (roll-Stmt x)
+      via x h =
+          subst (λ d. (line : ℕ) → Shallow (d + 3) ((lowered names (roll-Stmt x)).from line)) (sym (depth_layer x))
+          (subst (λ (l : Lowered). (line : ℕ) → Shallow (depth_step (map-Stmt Stmt ℕ depth x) + 3) (l.from line)) (sym (lowered_layer names x)) h)
+
+      print_shallow : (given : Option Kind) (atom : Atom) → Shallow 3 (print_of given (atom_expr names atom))
+      print_shallow (Some kind.Truth) atom = choice_shallow 2 (atom_expr names atom) (put_text (codes "T\n") ∷ []) (put_text (codes "F\n") ∷ []) (let is = atom_depth atom in omega arith) (text_shallow 2 (codes "T\n") (omega arith)) (text_shallow 2 (codes "F\n") (omega arith))
+      print_shallow (Some kind.Number) atom = let is = put_depth (atom_expr names atom) in let of = atom_depth atom in (omega arith, text_shallow 3 (codes "\n") (omega arith))
+      print_shallow None atom = let is = put_depth (atom_expr names atom) in let of = atom_depth atom in (omega arith, text_shallow 3 (codes "\n") (omega arith))
+
+      halt_shallow : (n kind line : ℕ) → 1 ≤ n → Shallow n (core.Halt kind 0 line ∷ [])
+      halt_shallow n kind line le = let is = halt_depth kind 0 line in (omega arith, tt)
+
+      layer : (y : Stmt-F Known) → Claim (roll-Stmt (map-Stmt Known Stmt first y))
+      layer (stmt.Declare is_var name type right) = via (stmt.Declare is_var name type right) (λ line. store_shallow line name right)
+      layer (stmt.Assign name value) = via (stmt.Assign name value) (λ line. store_shallow line name value)
+      layer (stmt.Print atom) = via (stmt.Print atom) (λ line. print_shallow (kind_of_atom names atom) atom)
+      layer (stmt.PrintText text) = via (stmt.PrintText text) (λ line. text_shallow 3 (text ++ 10 ∷ []) (omega arith))
+      layer (stmt.If test chosen None) = via (stmt.If test (map first chosen) None) (λ line.
+          let n = deepest (map depth (map first chosen)) in
+          let low = in_order (map (lowered names) (map first chosen)) (suc line)
+          in more (suc (n + 3)) (suc (max n 0) + 3) (omega arith) (core.If (condition_expr names test) low [] ∷ []) (choice_shallow (n + 3) (condition_expr names test) low [] (let le = condition_depth test in omega arith) (block n chosen (greatest_bounds 0 (map depth (map first chosen))) (suc line)) tt))
+      layer (stmt.If test chosen (Some other)) = via (stmt.If test (map first chosen) (Some (map first other))) (λ line.
+          let a = deepest (map depth (map first chosen)) in
+          let b = deepest (map depth (map first other)) in
+          let n = max a b in
+          let after = suc (suc line + count_of (map (lowered names) (map first chosen))) in
+          let low = in_order (map (lowered names) (map first chosen)) (suc line) in
+          let low_other = in_order (map (lowered names) (map first other)) after
+          in more (suc (n + 3)) (suc n + 3) (omega arith) (core.If (condition_expr names test) low low_other ∷ []) (choice_shallow (n + 3) (condition_expr names test) low low_other (let le = condition_depth test in omega arith)
+          (more (a + 3) (n + 3) (omega arith) low (block a chosen (greatest_bounds 0 (map depth (map first chosen))) (suc line)))
+          (more (b + 3) (n + 3) (omega arith) low_other (block b other (greatest_bounds 0 (map depth (map first other))) after))))
+      layer (stmt.Assert test) = via (stmt.Assert test) (λ line. choice_shallow 2 (condition_expr names test) [] (core.Halt assert_halt 0 line ∷ []) (condition_depth test) tt (halt_shallow 2 assert_halt line (omega arith)))
+      layer (stmt.Halt text) = via (stmt.Halt text) (λ line. halt_shallow 3 halt_halt line (omega arith))
+
+  known_of : (ss : List Stmt) → (ks : List Known) × (map first ks ≡ ss)
+  known_of [] = ([], refl)
+  known_of (s ∷ ss) = let ks = known_of ss in ((s, claim s) ∷ ks.0, ap (λ rest. s ∷ rest) ks.1)
+
+  -- statements that nest at most so deep
+  pub statements_shallow : (n : ℕ) (ss : List Stmt) → AllByRecursion (λ s. depth s ≤ n) ss → (line : ℕ) → Shallow (n + 3) (in_order (map (lowered names) ss) line)
+  statements_shallow n ss all =
+      let ks = known_of ss
+      in subst (λ ss. AllByRecursion (λ s. depth s ≤ n) ss → (line : ℕ) → Shallow (n + 3) (in_order (map (lowered names) ss) line)) ks.1 (λ all. block n ks.0 (all_to_map (λ d. d ≤ n) depth (map first ks.0) all)) all

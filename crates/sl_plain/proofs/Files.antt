@@ -1,0 +1,15 @@
+pub mod Lines
+pub mod Layers
+pub mod Stacks
+pub mod Heads
+pub mod Ends
+pub mod Indented
+pub mod Bodies
+pub mod Blocks
+pub mod Feeds
+pub mod Distinct
+pub mod Reading
+pub mod Declared
+pub mod Scopes
+pub mod Entries
+pub mod Seen

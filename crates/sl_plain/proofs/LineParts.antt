@@ -1,0 +1,6 @@
+pub mod Between
+pub mod Cuts
+pub mod Decisions
+pub mod Finds
+pub mod Numbers
+pub mod Wrapped

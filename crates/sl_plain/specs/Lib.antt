@@ -1,0 +1,9 @@
+pub mod Lines
+pub mod Plain
+pub mod Numbers
+pub mod Means
+pub mod Lowered
+pub mod Reach
+pub mod Numbering
+pub mod LineReading
+pub mod PlainReading

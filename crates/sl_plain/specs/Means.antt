@@ -1,0 +1,175 @@
+-- What a plain program does, as a run. A variable holds a value from its declaration on. Operands are computed from left to right; an
+-- operation that gives no number of `Z` halts, with its line; `assert` halts where its condition doesn't hold, and `halt` always.
+-- `println` prints a number in decimal, a truth value as `T` or `F`, or a text, and then a line feed. The call of `main` takes the
+-- one turn of the run, and what it returns is the exit value.
+use Rattle.std.specs.Prelude.{ℕ, suc, ◌+◌, ℤ, List, [], ◌∷◌, ◌++◌, Bool, true, false, Option, None, Some, Result, Ok, Err, map, codes, if◌then◌else◌}
+use Rattle.std.specs.Fmt.{signed_decimal}
+use Rattle.std.specs.Str.{bytes_eq}
+use Rattle.sl_num.specs.declared.arithmetic.Halt.{Halt}
+use Rattle.sl_num.specs.declared.comparing.Comparison.{Comparison}
+use Rattle.sl_num.specs.Arithmetic.{applied}
+use Rattle.sl_num.specs.Comparing.{holds}
+use Rattle.sl_run.specs.Run.{Stuck, Act, Over, Went, pure, over, ◌>>=◌, ◌>>◌, choose, put_all, turn}
+use Rattle.sl_run.specs.Run as run
+use Rattle.sl_run.specs.Outcome.{Outcome, whole_run}
+use Rattle.sl_core.specs.Meaning.{halt_number}
+use Rattle.sl_plain.specs.declared.line.Atom.{Atom}
+use Rattle.sl_plain.specs.declared.line.Atom.TheVariants.{Name, Number, Truth}
+use Rattle.sl_plain.specs.declared.line.Right.{Right}
+use Rattle.sl_plain.specs.declared.line.Right.TheVariants.{Just, Compare, Apply}
+use Rattle.sl_plain.specs.declared.line.Condition.{Condition}
+use Rattle.sl_plain.specs.declared.line.Condition.TheVariants as condition
+use Rattle.sl_plain.specs.declared.tree.Stmt.{Stmt, Stmt-F, fold-Stmt}
+use Rattle.sl_plain.specs.declared.tree.Stmt.TheOpen as stmt
+use Rattle.sl_plain.specs.declared.tree.Plain.{Plain}
+use Rattle.sl_plain.specs.Numbers.{z_type}
+
+-- a value: a number, or a truth value
+pub data Value : Type 0 where
+  Of : (number : ℤ) → Value
+  Is : (truth : Bool) → Value
+
+-- what each name holds, where it was declared in the run
+pub record Variables : Type 0 where
+  pub held : List ℕ → Option Value
+
+-- a name holds a value
+abbrev pub with_held : List ℕ → Value → Variables → Variables
+with_held name value variables = record { held = λ other. if bytes_eq name other then Some value else variables.held other }
+
+-- there is no meaning: a name holds nothing, or holds a value of another type. The program of a plain file never comes to it
+abbrev pub stuck : {A : Type 0} → Act Variables A
+stuck t variables = Over (Stuck 0) t
+
+-- the value of an atom
+abbrev pub value_of : Atom → Variables → Option Value
+value_of (Name name) variables = variables.held name
+value_of (Number number) variables = Some (Of number)
+value_of (Truth truth) variables = Some (Is truth)
+
+-- a part of a run that needs the value of an atom
+abbrev pub with_value_of : {B : Type 0} → Option Value → (Value → Act Variables B) → Act Variables B
+with_value_of None go = stuck
+with_value_of (Some value) go = go value
+
+abbrev pub with_value : {B : Type 0} → Atom → (Value → Act Variables B) → Act Variables B
+with_value atom go t variables = with_value_of (value_of atom variables) go t variables
+
+-- a part of a run that needs a number
+abbrev pub with_number_of : {B : Type 0} → (ℤ → Act Variables B) → Value → Act Variables B
+with_number_of go (Of number) = go number
+with_number_of go (Is truth) = stuck
+
+abbrev pub with_number : {B : Type 0} → Atom → (ℤ → Act Variables B) → Act Variables B
+with_number atom go = with_value atom (with_number_of go)
+
+-- a part of a run that needs a truth value
+abbrev pub with_truth_of : {B : Type 0} → (Bool → Act Variables B) → Value → Act Variables B
+with_truth_of go (Of number) = stuck
+with_truth_of go (Is truth) = go truth
+
+abbrev pub with_truth : {B : Type 0} → Atom → (Bool → Act Variables B) → Act Variables B
+with_truth atom go = with_value atom (with_truth_of go)
+
+-- a comparison of two numbers
+abbrev pub compare : Comparison → Atom → Atom → Act Variables Bool
+compare by a b = with_number a (λ x. with_number b (λ y. pure (holds by x y)))
+
+-- a result, or the halt that comes in its place, on this line of the one file
+abbrev pub result_or_halt : (line : ℕ) → Result ℤ Halt → Act Variables Value
+result_or_halt line (Ok number) = pure (Of number)
+result_or_halt line (Err halt) = over (run.Halt (halt_number halt) 0 line)
+
+-- the value of a right side on this line
+abbrev pub right_value : (line : ℕ) → Right → Act Variables Value
+right_value line (Just atom) = with_value atom pure
+right_value line (Compare by a b) = compare by a b >>= (λ truth. pure (Is truth))
+right_value line (Apply op a b) = with_number a (λ x. with_number b (λ y. result_or_halt line (applied z_type op x y)))
+
+-- whether a condition holds
+abbrev pub condition_value : Condition → Act Variables Bool
+condition_value (condition.Just atom) = with_truth atom pure
+condition_value (condition.Compare by a b) = compare by a b
+
+-- how a value is printed
+abbrev pub printed_truth : Bool → List ℕ
+printed_truth true = codes "T"
+printed_truth false = codes "F"
+
+abbrev pub printed_value : Value → List ℕ
+printed_value (Of number) = signed_decimal number
+printed_value (Is truth) = printed_truth truth
+
+-- bytes are printed, and a line feed behind them
+abbrev pub print_line : List ℕ → Act Variables (Unit {0})
+print_line bytes = put_all (bytes ++ 10 ∷ [])
+
+-- a name gets a value
+abbrev pub store : List ℕ → Value → Act Variables (Unit {0})
+store name value t variables = Went tt t (with_held name value variables)
+
+-- the kinds of halts: an `assert` that doesn't hold, and `halt`
+abbrev pub assert_halt : ℕ
+assert_halt = 1
+
+abbrev pub halt_halt : ℕ
+halt_halt = 2
+
+-- what a statement does whose first line has this number, and how many lines it has
+pub record Lined : Type 0 where
+  pub count : ℕ
+  pub from : ℕ → Act Variables (Unit {0})
+
+-- statements in order, the first from this line on
+abbrev pub in_order : List Lined → ℕ → Act Variables (Unit {0})
+in_order [] line = pure tt
+in_order (s ∷ ss) line = s.from line >> in_order ss (line + s.count)
+
+-- how many lines statements have
+abbrev pub count_of : List Lined → ℕ
+count_of [] = 0
+count_of (s ∷ ss) = s.count + count_of ss
+
+-- the statements behind `else`, which stands on this line
+abbrev pub in_else : Option (List Lined) → ℕ → Act Variables (Unit {0})
+in_else None line = pure tt
+in_else (Some block) line = in_order block (suc line)
+
+abbrev pub count_of_else : Option (List Lined) → ℕ
+count_of_else None = 0
+count_of_else (Some block) = suc (count_of block)
+
+-- a statement of one line
+abbrev pub on_line : (ℕ → Act Variables (Unit {0})) → Lined
+on_line from = record { count = 1; from = from }
+
+abbrev pub meaning_step : Stmt-F Lined → Lined
+meaning_step (stmt.Declare is_var name type first) = on_line (λ line. right_value line first >>= store name)
+meaning_step (stmt.Assign name value) = on_line (λ line. right_value line value >>= store name)
+meaning_step (stmt.Print atom) = on_line (λ line. with_value atom (λ value. print_line (printed_value value)))
+meaning_step (stmt.PrintText text) = on_line (λ line. print_line text)
+meaning_step (stmt.If test chosen other) = record {
+  count = suc (count_of chosen + count_of_else other + 1);
+  from = λ line. condition_value test >>= (λ so. choose so (in_order chosen (suc line)) (in_else other (suc line + count_of chosen)));
+}
+meaning_step (stmt.Assert test) = on_line (λ line. condition_value test >>= (λ so. choose so (pure tt) (over (run.Halt assert_halt 0 line))))
+meaning_step (stmt.Halt text) = on_line (λ line. over (run.Halt halt_halt 0 line))
+
+unfoldable pub meaning : Stmt → Lined
+meaning s = fold-Stmt Lined meaning_step s
+
+-- the line on which a body begins
+abbrev pub first_body_line : ℕ
+first_body_line = 5
+
+-- `main` is called, and does its statements; what it returns is the exit value
+abbrev pub program : Plain → Act Variables ℤ
+program plain = turn >> in_order (map meaning plain.body) first_body_line >> with_number plain.value pure
+
+-- nothing is declared
+abbrev pub none_held : Variables
+none_held = record { held = λ name. None }
+
+-- the whole run of a plain program on an input, in at most so many turns
+unfoldable pub plain_run : Plain → List ℕ → ℕ → Outcome
+plain_run plain input turns = whole_run (program plain) none_held input turns

@@ -1,0 +1,179 @@
+// How one line is read: the word at its front says which form it has, if any.
+ghost use Rattle.std.specs.Prelude.{◌≡◌, ◌≢◌, [], ◌∷◌, ◌++◌, ℕ, List, Some, None, IfOk, IfSome, IfNone, replicate, option_and_then};
+ghost use Rattle.sl_plain.specs.Lines.{spelled, IsLine};
+ghost use Rattle.sl_plain.specs.LineReading.{between, condition_in, front_of, line_with, declaration_of, cut_kind, print_of, closing_of, assignment_of};
+ghost use Rattle.sl_plain.specs.PlainReading.{indented_line_of};
+
+mod atoms;
+mod names;
+mod parts;
+mod rights;
+mod words;
+
+use crate::line::{Condition, Kind, Line, Right};
+use crate::reading::atoms::read_atom;
+pub use crate::reading::names::is_alphanumeric;
+use crate::reading::names::{is_name, quoted_in};
+pub use crate::reading::parts::between;
+use crate::reading::parts::{cut_word, space_len};
+use crate::reading::rights::{read_condition, read_right};
+use crate::reading::words::{Front, front_of};
+use sl_text::{Mem, Row};
+use std::alloc::Global;
+
+/// How many spaces the bytes begin with, and what stands behind them.
+pub fn indentation(bytes: &[u8]) -> (usize, &[u8])
+    ensures spaces { bytes.now ≡ replicate result.0 32 ++ result.1.now }
+    ensures all { (more : List ℕ) → result.1.now ≢ 32 ∷ more }
+{
+    let spaces = space_len(bytes);
+    (spaces, &bytes[spaces..])
+}
+
+/// The line that these bytes are, without indentation, or None where they are no line of a plain file.
+pub fn read_line(alloc: Global, bytes: &[u8]) -> Result<Option<Line>, Mem>
+    ensures line { IfOk result (λ found. IfSome found (λ line. IsLine line × (spelled line ≡ bytes.now))) }
+    ensures exact { IfOk result
+        (λ found. (line : Line) → IsLine line → spelled line ≡ bytes.now → found ≡ Some line) }
+{
+    let (word, rest) = cut_word(bytes);
+    read_behind(alloc, word, rest)
+}
+
+/// The line that these bytes are, behind their spaces.
+pub fn read_indented(alloc: Global, bytes: &[u8]) -> Result<Option<Line>, Mem>
+    ensures { IfOk result (λ found. found ≡ indented_line_of bytes.now) }
+{
+    let spaces = space_len(bytes);
+    let (word, rest) = cut_word(&bytes[spaces..]);
+    read_behind(alloc, word, rest)
+}
+
+/// A line with this word at its front, and with this behind it.
+fn read_behind(alloc: Global, word: &[u8], rest: &[u8]) -> Result<Option<Line>, Mem>
+    ensures { IfOk result (λ found. found ≡ line_with (front_of word.now) word.now rest.now) }
+{
+    match front_of(word) {
+        Front::Val => read_declaration(alloc, false, rest),
+        Front::Var => read_declaration(alloc, true, rest),
+        Front::Println => read_print(alloc, rest),
+        Front::If => Ok(read_test(alloc, b" (", b") {", rest)?.map(Line::If)),
+        Front::Assert => Ok(read_test(alloc, b"(", b")", rest)?.map(Line::Assert)),
+        Front::Halt => read_halt(alloc, rest),
+        Front::Return => read_return(alloc, rest),
+        Front::Brace => Ok(closing_of(rest)),
+        Front::Name => read_assignment(alloc, word, rest),
+    }
+}
+
+/// What stands behind `val` or `var`.
+fn read_declaration(alloc: Global, is_var: bool, rest: &[u8]) -> Result<Option<Line>, Mem>
+    ensures { IfOk result (λ found. found ≡ declaration_of is_var rest.now) }
+{
+    let Some(rest) = between(b" ", b"", rest) else {
+        return Ok(None);
+    };
+    let (name, rest) = cut_word(rest);
+    if !is_name(name) {
+        return Ok(None);
+    }
+    let Some((kind, rest)) = cut_kind(rest) else {
+        return Ok(None);
+    };
+    let Some(first) = read_right(alloc, rest)? else {
+        return Ok(None);
+    };
+    let name = Row::from_slice(alloc, name)?;
+    Ok(Some(Line::Declare(is_var, name, kind, first)))
+}
+
+/// The type of a declaration, and what stands behind its `=`.
+fn cut_kind(rest: &[u8]) -> Option<(Kind, &[u8])>
+    ensures none { IfNone result (cut_kind rest.now ≡ None) }
+    ensures some { IfSome result (λ cut. cut_kind rest.now ≡ Some (cut.0, cut.1.now)) }
+{
+    if let Some(first) = between(b": Z = ", b"", rest) {
+        return Some((Kind::Number, first));
+    }
+    let first = between(b": B = ", b"", rest)?;
+    Some((Kind::Truth, first))
+}
+
+/// What stands behind `println`.
+fn read_print(alloc: Global, rest: &[u8]) -> Result<Option<Line>, Mem>
+    ensures { IfOk result (λ found. found ≡ print_of rest.now) }
+{
+    let Some(printed) = between(b"(", b")", rest) else {
+        return Ok(None);
+    };
+    if let Some(atom) = read_atom(alloc, printed)? {
+        return Ok(Some(Line::Print(atom)));
+    }
+    let Some(text) = quoted_in(printed) else {
+        return Ok(None);
+    };
+    Ok(Some(Line::PrintText(Row::from_slice(alloc, text)?)))
+}
+
+/// The condition between this front and this end.
+fn read_test(alloc: Global, front: &[u8], end: &[u8], rest: &[u8]) -> Result<Option<Condition>, Mem>
+    ensures { IfOk result
+        (λ found. found ≡ option_and_then condition_in (between front.now end.now rest.now)) }
+{
+    match between(front, end, rest) {
+        Some(test) => read_condition(alloc, test),
+        None => Ok(None),
+    }
+}
+
+/// What stands behind `halt`.
+fn read_halt(alloc: Global, rest: &[u8]) -> Result<Option<Line>, Mem>
+    ensures { IfOk result (λ found. found ≡ line_with Front.Halt [] rest.now) }
+{
+    let Some(text) = between(b"(", b")", rest) else {
+        return Ok(None);
+    };
+    let Some(text) = quoted_in(text) else {
+        return Ok(None);
+    };
+    Ok(Some(Line::Halt(Row::from_slice(alloc, text)?)))
+}
+
+/// What stands behind `return`.
+fn read_return(alloc: Global, rest: &[u8]) -> Result<Option<Line>, Mem>
+    ensures { IfOk result (λ found. found ≡ line_with Front.Return [] rest.now) }
+{
+    let Some(value) = between(b" ", b"", rest) else {
+        return Ok(None);
+    };
+    Ok(read_atom(alloc, value)?.map(Line::Return))
+}
+
+/// A line that begins with a brace.
+fn closing_of(rest: &[u8]) -> Option<Line>
+    ensures { result ≡ closing_of rest.now }
+{
+    if rest == b"}".as_slice() {
+        return Some(Line::Close);
+    }
+    if rest == b"} else {".as_slice() {
+        return Some(Line::Else);
+    }
+    None
+}
+
+/// A line that begins with this name.
+fn read_assignment(alloc: Global, name: &[u8], rest: &[u8]) -> Result<Option<Line>, Mem>
+    ensures { IfOk result (λ found. found ≡ assignment_of name.now rest.now) }
+{
+    if !is_name(name) {
+        return Ok(None);
+    }
+    let Some(value) = between(b" = ", b"", rest) else {
+        return Ok(None);
+    };
+    let Some(value) = read_right(alloc, value)? else {
+        return Ok(None);
+    };
+    Ok(Some(Line::Assign(Row::from_slice(alloc, name)?, value)))
+}
