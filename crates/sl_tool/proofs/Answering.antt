@@ -5,16 +5,14 @@ use Rattle.std.proofs.lemmas.Bool.{le-leb}
 use Rattle.sl_outside.specs.Folder.{Contents}
 use Rattle.sl_run.proofs.Puts.{printed-puts}
 use Rattle.sl_tool.specs.declared.status.Status.TheVariants as status
-use Rattle.sl_tool.specs.declared.straight.Straight.{Straight}
+use Rattle.sl_plain.specs.declared.tree.Plain.{Plain}
 use Rattle.sl_text.specs.declared.rule.Rule.{Rule}
 use Rattle.sl_tool.specs.SourceFiles.{SourceFile, sources_of, first_broken_of, program_of}
-use Rattle.sl_tool.specs.Meaning.{run_of}
+use Rattle.sl_plain.specs.Means.{plain_run}
 use Rattle.sl_tool.specs.Words.{Command, files_of}
 use Rattle.sl_tool.specs.WordsReading.{command_of}
 use Rattle.sl_tool.specs.Texts.{usage_line, broken_line, no_file_line, not_built_line, exit_value_line}
-use Rattle.sl_tool.specs.Answer.{answer_of, answer_to, answer_to_files, answer_to_sources, answer_to_program, answer_to_straight, rejected, ran, default_turns}
-use Rattle.sl_tool.specs.Straight.{ended}
-use Rattle.sl_tool.proofs.Walking.{run_is}
+use Rattle.sl_tool.specs.Answer.{answer_of, answer_to, answer_to_files, answer_to_sources, answer_to_program, answer_to_plain, rejected, ran, default_turns}
 
 -- words with no command
 pub answer_usage : (words : List (List ℕ)) (files : Contents) (input : List ℕ) → command_of words ≡ None → answer_of words files input ≡ rejected status.Usage usage_line files input
@@ -38,18 +36,12 @@ unfolding answer_of
 answer_accepted words files input command sources reads found accepted =
     ap (λ command. answer_to command files input) reads ∙ (ap (λ found. answer_to_files command found files input) found ∙ ap (λ broken. answer_to_sources command sources broken files input) accepted)
 
--- sources that break no rule and aren't one straight file
+-- sources that break no rule and aren't one plain file
 pub answer_not_built : (words : List (List ℕ)) (files : Contents) (input : List ℕ) (command : Command) (sources : List SourceFile) → command_of words ≡ Some command → sources_of files (files_of command) ≡ Ok sources → first_broken_of sources ≡ None → program_of sources ≡ None → answer_of words files input ≡ rejected status.NotBuilt not_built_line files input
 answer_not_built words files input command sources reads found accepted none =
     answer_accepted words files input command sources reads found accepted ∙ ap (λ program. answer_to_program command program files input) none
 
--- one straight file that breaks no rule
-pub answer_straight : (words : List (List ℕ)) (files : Contents) (input : List ℕ) (command : Command) (sources : List SourceFile) (program : Straight) → command_of words ≡ Some command → sources_of files (files_of command) ≡ Ok sources → first_broken_of sources ≡ None → program_of sources ≡ Some program → answer_of words files input ≡ answer_to_straight command program files input
-answer_straight words files input command sources program reads found accepted some =
+-- one plain file that breaks no rule
+pub answer_plain : (words : List (List ℕ)) (files : Contents) (input : List ℕ) (command : Command) (sources : List SourceFile) (program : Plain) → command_of words ≡ Some command → sources_of files (files_of command) ≡ Ok sources → first_broken_of sources ≡ None → program_of sources ≡ Some program → answer_of words files input ≡ answer_to_plain command program files input
+answer_plain words files input command sources program reads found accepted some =
     answer_accepted words files input command sources reads found accepted ∙ ap (λ program. answer_to_program command program files input) some
-
--- what a straight program answers
-pub ran_is : (program : Straight) (files : Contents) (input : List ℕ) → program.value ≤ 63 → ran (run_of program input default_turns) files ≡ record { status = status.Exit program.value; files = files; out = ended program.texts; note = []; rest = input }
-ran_is program files input le =
-    ap (λ run. ran run files) (run_is program input 999999999)
-    ∙ ap₂ (λ (small : Bool) (out : List ℕ). record { status = cond small (status.Exit program.value) status.ExitValue; files = files; out = out; note = cond small [] (exit_value_line (pos program.value)); rest = input }) (le-leb program.value 63 le) (printed-puts (ended program.texts))

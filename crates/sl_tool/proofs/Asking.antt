@@ -1,6 +1,7 @@
 -- The files of a command are asked for one after another.
-use Rattle.std.proofs.Common.{◌≡◌, ℕ, zero, suc, ◌+◌, ◌<◌, List, [], ◌∷◌, ◌++◌, length, get_or, take, drop, Option, Some, None, refl, sym, ap, ◌∙◌, subst, inl, inr, Bor}
-use Rattle.std.specs.Prelude.{IfSome, Result, Ok, Err, IsErrAnd}
+use Rattle.std.proofs.Common.{◌≡◌, ℕ, zero, suc, ◌+◌, ◌<◌, List, [], ◌∷◌, ◌++◌, length, get_or, take, drop, Option, Some, None, Bool, true, false, ◌≤◌, ◌^◌, refl, sym, ap, ◌∙◌, subst, inl, inr, arith, Bor}
+use Rattle.std.specs.Prelude.{IfSome, Result, Ok, Err, IsErrAnd, nat_lt}
+use Rattle.std.proofs.lemmas.Bool.{ltb-true, ltb-false}
 use Rattle.std.specs.List.{All}
 use Rattle.std.proofs.lemmas.List.{append_assoc, map-append, take_more}
 use Rattle.std.proofs.lemmas.List.Elements.{All-append, All-cons, All-nil, All-head, All-tail, All-map}
@@ -11,16 +12,20 @@ use Rattle.sl_outside.specs.Folder.{Contents, FolderCall, ReadCall, GoesOn, Fold
 use Rattle.sl_text.specs.declared.rule.Rule.{Rule}
 use Rattle.sl_outside.specs.Sink.{SinkState}
 use Rattle.sl_tool.specs.declared.source.SourceFile as found
+use Rattle.c_machine.specs.declared.ending.End.{End}
 use Rattle.sl_tool.specs.declared.stop.Stop.{Stop}
-use Rattle.sl_tool.specs.declared.straight.Straight.{Straight}
-use Rattle.sl_tool.specs.Straight.{IsProgram}
+use Rattle.sl_plain.specs.declared.tree.Plain.{Plain}
+use Rattle.sl_plain.specs.Plain.{IsProgram}
+use Rattle.sl_plain.specs.Reach.{IsInReach}
+use Rattle.sl_plain.proofs.Reached.{in_reach}
+use Rattle.sl_tool.specs.Accepting.{IsAccepted, greatest_length, lexical}
 use Rattle.sl_tool.specs.declared.stop.Stop.TheVariants as stop
-use Rattle.sl_tool.specs.SourceFiles.{SourceFile, AreSources, IsThere}
+use Rattle.sl_tool.specs.SourceFiles.{SourceFile, AreSources, AreAccepted, IsThere}
 use Rattle.sl_tool.specs.WordsReading.{names_seen}
 use Rattle.sl_tool.specs.Stopping.{stop_of}
 use Rattle.sl_tool.specs.Promise.{more_calls, reads_of, AskedAll, AskedUpTo}
 use Rattle.sl_tool.specs.Parts.{Finds, FindsSources, FindsAccepted, ReadsSources, ReadsProgram, RunsFiles, EmitsFiles, broken_name, sources_seen}
-use Rattle.sl_tool.proofs.Sources.{same_parts, found_program}
+use Rattle.sl_tool.proofs.Sources.{same_parts, found_program, found_accepted}
 use Rattle.sl_tool.proofs.Printing.{cut_at}
 
 -- what a folder tells of its calls goes on with some, and then with more
@@ -142,7 +147,7 @@ read_stopped names before after (Ok sources) is name bytes asked = absurd is
 read_stopped names before after (Err other) is name bytes asked = subst (λ other. ReadsSources names before after (Err other)) (sym is) (inr (name, Ok (Some bytes), tt, asked))
 
 -- want of memory after all was read
-pub program_stopped : (names : List (List ℕ)) (before after : FolderState) (result : Result Straight Stop) → IsErrAnd result (λ other. other ≡ stop.Mem) → AskedAll names before after → ReadsProgram names before after result
+pub program_stopped : (names : List (List ℕ)) (before after : FolderState) (result : Result Plain Stop) → IsErrAnd result (λ other. other ≡ stop.Mem) → AskedAll names before after → ReadsProgram names before after result
 program_stopped names before after (Ok program) is asked = absurd is
 program_stopped names before after (Err other) is asked = subst (λ other. ReadsProgram names before after (Err other)) (sym is) (inl asked)
 
@@ -159,15 +164,29 @@ none_broken None e = refl
 none_broken (Some found) e = absurd (cc e)
 
 -- a program that was read is well formed
-pub program_is_ok : {names : List (List ℕ)} {program : Straight} {before after : FolderState} → FindsAccepted names (Some program) before after → IsProgram program
-program_is_ok {program = program} finds = let straight = found_program finds.sources program finds.program_is in straight.2.well_formed
+pub program_is_ok : {names : List (List ℕ)} {program : Plain} {before after : FolderState} → FindsAccepted names (Some program) before after → IsProgram program
+program_is_ok {program = program} finds = let plain = found_program finds.sources program finds.program_is in plain.2.well_formed
+
+-- and in reach, since an accepted file has at most 4194304 bytes
+pub program_in_reach : {names : List (List ℕ)} {program : Plain} {before after : FolderState} → FindsAccepted names (Some program) before after → IsInReach program
+program_in_reach {program = program} finds =
+    let plain = found_program finds.sources program finds.program_is in
+    let accepted = found_accepted finds.sources finds.accepted in
+    in_reach plain.0.bytes program plain.2 (short plain.0 (subst AreAccepted plain.1 accepted))
+  where
+    short : (source : SourceFile) → AreAccepted (source ∷ []) → length source.bytes ≤ 2 ^ 30
+    short source all = at (nat_lt greatest_length (length source.bytes)) refl
+      where
+        at : (long : Bool) → nat_lt greatest_length (length source.bytes) ≡ long → length source.bytes ≤ 2 ^ 30
+        at true e = absurd (All-head (λ source. IsAccepted source.bytes) source [] all (lexical 7) 0 (inr (refl, refl, ltb-true greatest_length (length source.bytes) e)))
+        at false e = let most = ltb-false greatest_length (length source.bytes) e in omega arith
 
 -- memory ran out after a program was read, before it was run
-pub run_stopped : (names : List (List ℕ)) (program : Straight) (before after : FolderState) (out : SinkState) (result : Result ℕ Stop) → IsErrAnd result (λ other. other ≡ stop.Mem) → FindsAccepted names (Some program) before after → RunsFiles names before after out out result
-run_stopped names program before after out (Ok value) is finds = absurd is
-run_stopped names program before after out (Err other) is finds = subst (λ other. RunsFiles names before after out out (Err other)) (sym is) (inl (asked_all names finds.sources before after finds.finds), refl)
+pub run_stopped : (names : List (List ℕ)) (program : Plain) (before after : FolderState) (out : SinkState) (result : Result End Stop) → IsErrAnd result (λ other. other ≡ stop.Mem) → FindsAccepted names (Some program) before after → RunsFiles names before after out out result
+run_stopped names program before after out (Ok end) is finds = absurd is
+run_stopped names program before after out (Err other) is finds = subst (λ other. RunsFiles names before after out out (Err other)) (sym is) (inl (inl (asked_all names finds.sources before after finds.finds), refl))
 
 -- or written
-pub emit_stopped : (name : List ℕ) (names : List (List ℕ)) (program : Straight) (before after : FolderState) (out : SinkState) (result : Result (Unit {0}) Stop) → IsErrAnd result (λ other. other ≡ stop.Mem) → FindsAccepted names (Some program) before after → EmitsFiles name names before after out out result
+pub emit_stopped : (name : List ℕ) (names : List (List ℕ)) (program : Plain) (before after : FolderState) (out : SinkState) (result : Result (Unit {0}) Stop) → IsErrAnd result (λ other. other ≡ stop.Mem) → FindsAccepted names (Some program) before after → EmitsFiles name names before after out out result
 emit_stopped name names program before after out (Ok done) is finds = absurd is
 emit_stopped name names program before after out (Err other) is finds = subst (λ other. EmitsFiles name names before after out out (Err other)) (sym is) (inl (inl (asked_all names finds.sources before after finds.finds)), refl)

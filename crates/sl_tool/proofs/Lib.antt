@@ -1,11 +1,6 @@
-pub mod Reader
 pub mod Reading
 pub mod Accepted
 pub mod Sources
-pub mod Walking
-pub mod Tree
-pub mod Naming
-pub mod Stepped
 pub mod Meant
 pub mod Ran
 pub mod Answering

@@ -1,41 +1,48 @@
 -- The promise on each path through a call.
-use Rattle.std.proofs.Common.{◌≡◌, ℕ, ◌+◌, ◌≤◌, ◌<◌, Bool, List, [], ◌++◌, Option, Some, None, true, false, refl, sym, ap, ◌∙◌, subst, inl, inr, append-nil, arith}
-use Rattle.std.specs.Prelude.{◌⊎◌, pos, IfSome, Result, Ok, Err}
+use Rattle.std.proofs.Common.{◌≡◌, ℕ, ◌+◌, ◌≤◌, ◌<◌, Bool, List, [], ◌++◌, Option, Some, None, true, false, refl, sym, ap, ◌∙◌, subst, inl, inr, append-nil, append_assoc, arith}
+use Rattle.std.specs.Prelude.{◌⊎◌, pos, negsuc, nat_le, if◌then◌else◌, IfSome, Result, Ok, Err}
+use Rattle.std.proofs.lemmas.Bool.{leb-true}
 use Rattle.sl_outside.specs.declared.folder.Refused.TheVariants as refused
 use Rattle.sl_outside.specs.declared.source.Failed.{Failed}
 use Rattle.sl_outside.specs.Counts.{Rose, HasCause}
 use Rattle.sl_outside.specs.Folder.{Contents, FolderState}
 use Rattle.sl_outside.specs.Source.{SourceState}
 use Rattle.sl_outside.specs.Sink.{IsPrefix, SinkState, Put, Tried, Prints}
-use Rattle.sl_run.specs.Run.{Done}
+use Rattle.sl_run.specs.Run.{Ending, Done, Halt, TurnsSpent, Stuck}
+use Rattle.sl_run.specs.Outcome.{Outcome, printed}
 use Rattle.c_tree.specs.Text.{CText}
 use Rattle.c_write.specs.Lined.{lined}
 use Rattle.sl_tool.specs.declared.stop.Stop.{Stop}
 use Rattle.sl_tool.specs.declared.stop.Stop.TheVariants as stop
 use Rattle.sl_tool.specs.declared.status.Status.{Status}
 use Rattle.sl_tool.specs.declared.status.Status.TheVariants.{Exit, Usage, Broken, NoFile, FolderFault, SinkFault, Memory, NotBuilt}
-use Rattle.sl_tool.specs.declared.straight.Straight.{Straight}
-use Rattle.sl_tool.specs.Straight.{ended}
+use Rattle.sl_tool.specs.declared.status.Status.TheVariants as outcomes
+use Rattle.sl_plain.specs.declared.tree.Plain.{Plain}
+use Rattle.sl_plain.specs.Means.{plain_run}
+use Rattle.c_machine.specs.declared.ending.End.{End}
+use Rattle.c_machine.specs.declared.ending.End.TheVariants as end
+use Rattle.c_machine.specs.declared.ending.StepFault.TheVariants as fault
+use Rattle.c_machine.specs.Stepped.{ending_of}
 use Rattle.sl_text.specs.declared.rule.Rule.{Rule}
 use Rattle.sl_tool.specs.SourceFiles.{SourceFile}
-use Rattle.sl_tool.specs.Tree.{tree_of, written}
+use Rattle.sl_tool.specs.Written.{tree_of, written, IsTreeOf}
 use Rattle.sl_tool.specs.Words.{Command, Run, Emit, files_of, Reads, BeginsNoCommand}
 use Rattle.sl_tool.specs.WordsReading.{command_of}
-use Rattle.sl_tool.specs.Texts.{emitted_line, usage_line, broken_line, no_file_line, folder_fault_line, output_fault_line, no_memory_line, not_built_line}
-use Rattle.sl_tool.specs.Answer.{Answer, answer_of, answer_to_straight, rejected, c_name}
+use Rattle.sl_tool.specs.Texts.{emitted_line, usage_line, broken_line, no_file_line, folder_fault_line, output_fault_line, no_memory_line, not_built_line, turns_spent_line, exit_value_line}
+use Rattle.sl_tool.specs.Answer.{Answer, answer_of, answer_to_plain, ran, rejected, default_turns, run_status, run_line, c_name}
 use Rattle.sl_tool.specs.Outside.{Outside, IsTold}
-use Rattle.sl_tool.specs.Promise.{IsUnlessMemory, HoldsStraight, Did, IsFinal, Finished, WroteC, Emits, AsksForNoFile, AsksForBroken, Cause, HidesNoFault, CountsGrow, GoesNoFurther, AskedAndWrote, Stopped, RunDid, EmitDid, Acts, IsLineOf, Noted, Promise}
-use Rattle.sl_tool.specs.Parts.{FindsMissing, FindsBroken, FindsAccepted, StopsFor, Tells, is_folder_fault, RunsFiles, WritesC, TellsC, EmitsFiles, TellsStop}
+use Rattle.sl_tool.specs.Promise.{IsUnlessMemory, HoldsPlain, Did, IsFinal, Finished, WroteC, Emits, EndsWith, AsksForNoFile, AsksForBroken, Cause, HidesNoFault, CountsGrow, GoesNoFurther, AskedAndWrote, Stopped, RunDid, EmitDid, Acts, IsLineOf, Printed, Noted, Promise}
+use Rattle.sl_tool.specs.Parts.{FindsMissing, FindsBroken, FindsAccepted, StopsFor, Tells, is_folder_fault, RanProgram, IsDefined, RunsFiles, WritesC, TellsC, EmitsFiles, MakesAndTells, TellsAs, TellsEnd, TellsStop}
 use Rattle.sl_tool.proofs.Reading.{command_of_reading, reading_of_command, no_reading, begins_none}
 use Rattle.sl_tool.proofs.Sources.{missing_found, missing_is_none, sources_found, found_accepted, found_broken, found_program, found_no_program}
-use Rattle.sl_tool.proofs.Walking.{run_is}
-use Rattle.sl_tool.proofs.Answering.{answer_usage, answer_broken, answer_no_file, answer_not_built, answer_straight, ran_is}
-use Rattle.sl_tool.proofs.Noting.{each_some, prefix_none, gave, gave_prefix, try_calm, tell_ends, tell_calm, tell_grows, try_grows, stays_grown}
+use Rattle.sl_tool.proofs.Answering.{answer_usage, answer_broken, answer_no_file, answer_not_built, answer_plain}
+use Rattle.sl_tool.proofs.Noting.{each_some, prefix_whole, prefix_none, gave, gave_prefix, try_calm, tell_ends, tell_calm, tell_grows, try_grows, stays_grown}
 use Rattle.sl_tool.proofs.Printing.{printed_whole, printed_prefix, printed_calm, printed_rose}
 use Rattle.sl_tool.proofs.Told.{told_files, files_told, input_of, input_told, told_is, still_told}
 use Rattle.sl_tool.proofs.Asking.{asked_all}
 use Rattle.sl_tool.proofs.ToldSources.{Accepted, told_missing, told_broken, told_accepted}
-use Rattle.sl_tool.proofs.Promising.{answer_rest, by_answer, Excused, Settles, keeps}
+use Rattle.sl_tool.proofs.Promising.{answer_rest, by_answer, Excused, run_yields, Settles, keeps}
+use Rattle.sl_plain.proofs.Rest.{rest_kept}
 use Rattle.sl_tool.proofs.Meant.{text_is_c}
 use Rattle.sl_tool.proofs.Writing.{written_told}
 
@@ -99,9 +106,9 @@ module _ (words : List (List ℕ)) (folder folder' : FolderState) (source : Sour
   by_end P meant status (inr h) p q = subst P (sym h.0) (q h.1)
 
   -- what `note` got where a line was told
-  noted_told : (files : Contents) (meant status : Status) (line : List ℕ) → IsLineOf words files meant line → (Put line note note' (Ok tt) → Noted words files before after meant) → Tells line meant note note' status → Noted words files before after status
-  noted_told files meant status line is given (inl h) = subst (λ s. Noted words files before after s) (sym h.1) (given h.0)
-  noted_told files meant status line is given (inr (m, refused, tried, e)) = subst (λ s. Noted words files before after s) (sym e) (inr (meant, line, m, is, refused, tried))
+  noted_told : (files : Contents) (input : List ℕ) (meant status : Status) (line : List ℕ) → IsLineOf words files input meant line → (Put line note note' (Ok tt) → Noted words files input before after meant) → Tells line meant note note' status → Noted words files input before after status
+  noted_told files input meant status line is given (inl h) = subst (λ s. Noted words files input before after s) (sym h.1) (given h.0)
+  noted_told files input meant status line is given (inr (m, refused, tried, e)) = subst (λ s. Noted words files input before after s) (sym e) (inr (meant, line, m, is, refused, tried))
 
   -- counts of faults
   grows : {is_fault : Bool} → HasCause is_fault folder.faults folder'.faults → (out.faults ≤ out'.faults) × (out'.faults ≤ out.faults + 1) → (note.faults ≤ note'.faults) × (note'.faults ≤ note.faults + 2) → CountsGrow before after
@@ -173,16 +180,15 @@ module _ (words : List (List ℕ)) (folder folder' : FolderState) (source : Sour
               run = λ names reads. absurd (unread (Run names) reads);
               emit = λ name names reads. absurd (unread (Emit name names) reads);
             })
-            (noted_told files Usage status usage_line (unread, refl) (λ put. put) tells)
+            (noted_told files input Usage status usage_line (unread, refl) (λ put. put) tells)
             refl,
       )
 
-  -- memory ran out with nothing put on `out`
-  memory_at : ¬ BeginsNoCommand words → (files : Contents) → IsTold folder.files files → out' ≡ out → HasCause false folder.faults folder'.faults → Acts words files (answer_of words files (input_of source.left)) before after Memory → Tried no_memory_line note note' → Promise words before after Memory
-  memory_at begins files is_told same cause acts tried =
+  -- memory ran out with no fault of `out`
+  memory_at : ¬ BeginsNoCommand words → (files : Contents) → IsTold folder.files files → out'.faults ≡ out.faults → GoesNoFurther (answer_of words files (input_of source.left)) (input_of source.left) before after → HasCause false folder.faults folder'.faults → Acts words files (answer_of words files (input_of source.left)) before after Memory → Tried no_memory_line note note' → Promise words before after Memory
+  memory_at begins files is_told sink stands cause acts tried =
       let input = input_of source.left in
-      let is_left = input_told source.left in
-      let sink : out'.faults ≡ out.faults = ap (λ s. s.faults) same in (
+      let is_left = input_told source.left in (
         files,
         input,
         is_told,
@@ -196,7 +202,7 @@ module _ (words : List (List ℕ)) (folder folder' : FolderState) (source : Sour
             (λ none. absurd (begins none))
             (hides_note Memory (cause.stayed refl) sink (λ lt. inl (inr refl)))
             (grows cause (stays_grown out.faults out'.faults sink) (try_grows _ note note' tried))
-            (stands_still files input is_left (ap (λ s. s.held) same))
+            stands
             acts
             tried
             refl,
@@ -206,7 +212,8 @@ module _ (words : List (List ℕ)) (folder folder' : FolderState) (source : Sour
   pub words_memory_promise : (status : Status) → ¬ BeginsNoCommand words → folder' ≡ folder → out' ≡ out → Tried no_memory_line note note' → status ≡ Memory → Promise words before after status
   words_memory_promise status begins idle same tried e =
       subst (λ s. Promise words before after s) (sym e)
-      (memory_at begins (told_files folder.files) (files_told folder.files) same (no_call idle)
+      (memory_at begins (told_files folder.files) (files_told folder.files) (ap (λ s. s.faults) same)
+      (stands_still (told_files folder.files) (input_of source.left) (input_told source.left) (ap (λ s. s.held) same)) (no_call idle)
       (record {
         none = λ _. (idle, same);
         run = λ names reads. inl (inl idle, same);
@@ -249,13 +256,15 @@ module _ (words : List (List ℕ)) (folder folder' : FolderState) (source : Sour
         (λ none. let some : None ≡ Some command = sym none ∙ is_read in absurd (cc some))
         (λ _. inl rose) (λ _ _. inl rose) rose at
       where
-        at : (other : Command) (program : Straight) → program.value ≤ 63 → Excused before after (answer_to_straight other program files input).status
-        at (Run names) program small = subst (λ answer. Excused before after answer.status) (sym (ran_is program files input small)) (inl rose)
-        at (Emit name names) program small = inl rose
+        at : (other : Command) (program : Plain) → Excused before after (answer_to_plain other program files input).status
+        at (Run names) program = run_yields before after (plain_run program input default_turns).ending (inl rose)
+        at (Emit name names) program = inl rose
 
     -- memory ran out before anything was put
     memory_promise : (files : Contents) → IsTold folder.files files → out' ≡ out → HasCause false folder.faults folder'.faults → Does files (answer_of words files (input_of source.left)) command Memory → Tried no_memory_line note note' → Promise words before after Memory
-    memory_promise files is_told same cause does tried = memory_at begins files is_told same cause (acts files (answer_of words files (input_of source.left)) Memory does) tried
+    memory_promise files is_told same cause does tried =
+        memory_at begins files is_told (ap (λ s. s.faults) same) (stands_still files (input_of source.left) (input_told source.left) (ap (λ s. s.held) same)) cause
+        (acts files (answer_of words files (input_of source.left)) Memory does) tried
 
     -- the folder failed
     folder_promise : (files : Contents) → IsTold folder.files files → out' ≡ out → HasCause true folder.faults folder'.faults → Does files (answer_of words files (input_of source.left)) command FolderFault → Tried folder_fault_line note note' → Promise words before after FolderFault
@@ -283,7 +292,7 @@ module _ (words : List (List ℕ)) (folder folder' : FolderState) (source : Sour
               refl,
         )
 
-    -- the sources aren't one straight file
+    -- the sources aren't one plain file
     not_built_promise : FindsAccepted (files_of command) None folder folder' → out' ≡ out → HasCause false folder.faults folder'.faults → Tried not_built_line note note' → Promise words before after NotBuilt
     not_built_promise finds same cause tried =
         let told = told_accepted finds in
@@ -314,7 +323,7 @@ module _ (words : List (List ℕ)) (folder folder' : FolderState) (source : Sour
         )
 
     -- nothing was put on `out`, and the line of a status was told on `note`, which is what is answered
-    told_promise : (files : Contents) (meant status : Status) (line : List ℕ) → IsTold folder.files files → answer_of words files (input_of source.left) ≡ rejected meant line files (input_of source.left) → IsLineOf words files meant line → (Put line note note' (Ok tt) → Noted words files before after meant) → Cause words files (input_of source.left) before after meant → (Rose note.faults note'.faults → Excused before after meant) → Emits words files before after meant → Stopped (files_of command) files before after meant → (Rose note.faults note'.faults → Stopped (files_of command) files before after SinkFault) → folder'.files ≡ folder.files → out' ≡ out → HasCause false folder.faults folder'.faults → Tells line meant note note' status → Promise words before after status
+    told_promise : (files : Contents) (meant status : Status) (line : List ℕ) → IsTold folder.files files → answer_of words files (input_of source.left) ≡ rejected meant line files (input_of source.left) → IsLineOf words files (input_of source.left) meant line → (Put line note note' (Ok tt) → Noted words files (input_of source.left) before after meant) → Cause words files (input_of source.left) before after meant → (Rose note.faults note'.faults → Excused before after meant) → Emits words files before after meant → Stopped (files_of command) files before after meant → (Rose note.faults note'.faults → Stopped (files_of command) files before after SinkFault) → folder'.files ≡ folder.files → out' ≡ out → HasCause false folder.faults folder'.faults → Tells line meant note note' status → Promise words before after status
     told_promise files meant status line is_told e is_line noted caused excuse emits stopped refused unchanged same cause tells =
         let input = input_of source.left in
         let is_left = input_told source.left in
@@ -339,7 +348,7 @@ module _ (words : List (List ℕ)) (folder folder' : FolderState) (source : Sour
               (grows cause (stays_grown out.faults out'.faults sink) (tell_grows meant status line note note' tells))
               (stands_still files input is_left still)
               (acts files answer status (does_stopped files answer command status (by_end (λ s. Stopped (files_of command) files before after s) meant status ends stopped refused) same))
-              (noted_told files meant status line is_line noted tells)
+              (noted_told files input meant status line is_line noted tells)
               refl,
         )
 
@@ -351,7 +360,7 @@ module _ (words : List (List ℕ)) (folder folder' : FolderState) (source : Sour
         let input = input_of source.left in
         let line = no_file_line name in
         let asks : AsksForNoFile words files name = (command, reads, told.missing) in
-        let is_line : IsLineOf words files NoFile line = (name, asks, refl) in
+        let is_line : IsLineOf words files input NoFile line = (name, asks, refl) in
         let none = missing_is_none files (files_of command) name told.missing in
         told_promise files NoFile status line told.is_told (answer_no_file words files input command name is_read (missing_found files (files_of command) name told.missing)) is_line (λ put. (line, is_line, put))
         (name, asks) inr (nothing_emitted files NoFile (λ value e. absurd (cc e)) (λ e. absurd (cc e)))
@@ -366,7 +375,7 @@ module _ (words : List (List ℕ)) (folder folder' : FolderState) (source : Sour
         let line = broken_line name 1 1 rule in
         let broken : SourceFile = record { name = name; bytes = finds.bytes } in
         let asks : AsksForBroken words files broken rule 0 = (told.sources, (command, reads, told.are), found_broken told.sources broken rule told.broken) in
-        let is_line : IsLineOf words files Broken line = (broken, rule, 0, asks, refl) in
+        let is_line : IsLineOf words files input Broken line = (broken, rule, 0, asks, refl) in
         let asked = asked_all (files_of command) finds.sources folder folder' finds.finds in
         told_promise files Broken status line told.is_told (answer_broken words files input command told.sources broken rule is_read (sources_found files (files_of command) told.sources told.are) told.broken) is_line (λ put. (line, is_line, put))
         (broken, rule, 0, asks) inr (nothing_emitted files Broken (λ value e. absurd (cc e)) (λ e. absurd (cc e)))
@@ -415,97 +424,219 @@ module _ (words : List (List ℕ)) (folder folder' : FolderState) (source : Sour
         )
 
     -- a program that was found
-    module _ (program : Straight) (told : Accepted folder.files (files_of command) (Some program)) where
-      held : HoldsStraight told.files (files_of command) program
+    module _ (program : Plain) (told : Accepted folder.files (files_of command) (Some program)) where
+      held : HoldsPlain told.files (files_of command) program
       held = (told.sources, told.are, found_accepted told.sources told.accepted, found_program told.sources program told.program_is)
 
-      small : program.value ≤ 63
-      small = held.3.2.well_formed.value
-
-      answers_straight : (input : List ℕ) → answer_of words told.files input ≡ answer_to_straight command program told.files input
-      answers_straight input = answer_straight words told.files input command told.sources program is_read (sources_found told.files (files_of command) told.sources told.are) told.accepted told.program_is
+      answers_plain : (input : List ℕ) → answer_of words told.files input ≡ answer_to_plain command program told.files input
+      answers_plain input = answer_plain words told.files input command told.sources program is_read (sources_found told.files (files_of command) told.sources told.are) told.accepted told.program_is
 
   -- `run` of files
   module _ (names : List (List ℕ)) (is_read : command_of words ≡ Some (Run names)) where
-    -- what a straight file answers
-    answers : (input : List ℕ) (program : Straight) (told : Accepted folder.files names (Some program)) → answer_of words told.files input ≡ record { status = Exit program.value; files = told.files; out = ended program.texts; note = []; rest = input }
-    answers input program told = answers_straight (Run names) is_read program told input ∙ ran_is program told.files input (small (Run names) is_read program told)
+    -- the run of a program on this input
+    abbrev run : Plain → Outcome
+    run program = plain_run program (input_of source.left) default_turns
 
-    -- a prefix of a straight file's output is on `out`
-    stands_prefix : (input : List ℕ) (program : Straight) (told : Accepted folder.files names (Some program)) (result : Result (Unit {0}) Failed) → IsTold source.left input → Prints (ended program.texts) out out' result → GoesNoFurther (answer_of words told.files input) input before after
-    stands_prefix input program told result is_left prints = record {
+    -- what a plain file answers
+    answers : (program : Plain) (told : Accepted folder.files names (Some program)) → answer_of words told.files (input_of source.left) ≡ ran names (run program) told.files
+    answers program told = answers_plain (Run names) is_read program told (input_of source.left)
+
+    -- a prefix of what a program prints is on `out`
+    stands_prefix : (program : Plain) (told : Accepted folder.files names (Some program)) (bytes : List ℕ) (result : Result (Unit {0}) Failed) → IsPrefix bytes (printed (run program).events) → Prints bytes out out' result → GoesNoFurther (answer_of words told.files (input_of source.left)) (input_of source.left) before after
+    stands_prefix program told bytes result more prints = record {
       out = each_some out.held _ (λ held e.
-          let prefix = printed_prefix (ended program.texts) out out' held result e prints in
-          (prefix.0, subst (λ whole. IsPrefix prefix.0 whole) (sym (ap (λ answer. answer.out) (answers input program told))) prefix.1, prefix.2));
-      taken = takes_nothing told.files input is_left;
+          let prefix = printed_prefix bytes out out' held result e prints in
+          let longer : IsPrefix prefix.0 (printed (run program).events) = (prefix.1.0 ++ more.0, more.1 ∙ (ap (λ front. front ++ more.0) prefix.1.1 ∙ append_assoc prefix.0 prefix.1.0 more.0)) in
+          (prefix.0, subst (λ whole. IsPrefix prefix.0 whole) (sym (ap (λ answer. answer.out) (answers program told))) longer, prefix.2));
+      taken = takes_nothing told.files (input_of source.left) (input_told source.left);
     }
 
     -- the words don't ask for C
     runs_only : (files : Contents) (status : Status) → Emits words files before after status
     runs_only files status name other asks = let never : Run names ≡ Emit name other = same_command (Run names) is_read (Emit name other) asks in absurd (cc never)
 
-    -- the program ran to its end
-    pub exit_promise : (value : ℕ) → RunsFiles names folder folder' out out' (Ok value) → HasCause false folder.faults folder'.faults → note' ≡ note → Promise words before after (Exit value)
-    exit_promise value (program, finds, is, prints) cause quiet =
-        let told = told_accepted finds in
-        let files = told.files in
-        let input = input_of source.left in
-        let is_left = input_told source.left in
-        let asked = asked_all names finds.sources folder folder' finds.finds in
-        let e = answers input program told in
-        let little : value ≤ 63 = subst (λ n. n ≤ 63) (sym is) (small (Run names) is_read program told) in
-        let calm : out'.faults ≡ out.faults = printed_calm (ended program.texts) out out' prints in
-        let same : note'.faults ≡ note.faults = ap (λ n. n.faults) quiet in
-        let did : Did (answer_of words files input) before after (Exit value) =
-        subst (λ answer. Did answer before after (Exit value)) (sym e)
-        (record {
-          same_status = ap Exit is;
-          files = still_told folder.files folder'.files files told.is_told asked.unchanged;
-          out = each_some out.held _ (λ held g. printed_whole (ended program.texts) out out' held g prints);
-          note = each_some note.held _ (λ held g. ap (λ n. n.held) quiet ∙ (g ∙ ap Some (sym (append-nil held))));
-          rest = told_is source.left input is_left;
-        }) in (
-          files,
-          input,
-          told.is_told,
-          is_left,
-          keeps words files input before after (Exit value)
-              (λ calm. inl did)
-              (λ _. did)
-              (runs_only files (Exit value))
-              (little, (Run names, program, reads (Run names) is_read, held (Run names) is_read program told, ap (λ run. run.ending) (run_is program input 999999999) ∙ ap (λ n. Done (pos n)) (sym is)))
-              (subst (λ meant. Settles before after meant (Exit value)) (sym (ap (λ answer. answer.status) e)) (inl (inl (ap Exit is))))
-              (λ none. absurd (begins (Run names) is_read none))
-              (hides_note (Exit value) (cause.stayed refl) calm (λ lt. absurd (omega arith)))
-              (grows cause (stays_grown out.faults out'.faults calm) (omega arith, omega arith))
-              (stands_prefix input program told (Ok tt) is_left prints)
-              (acts (Run names) is_read files (answer_of words files input) (Exit value) (inr (asked, subst (λ answer. Prints answer.out out out' (Ok tt)) (sym e) prints)))
-              quiet
-              refl,
-        )
+    -- all that a program prints was put
+    module _ (program : Plain) (finds : FindsAccepted names (Some program) folder folder') (prints : Prints (printed (run program).events) out out' (Ok tt)) (cause : HasCause false folder.faults folder'.faults) where
+      abbrev told : Accepted folder.files names (Some program)
+      told = told_accepted finds
+
+      abbrev input : List ℕ
+      input = input_of source.left
+
+      calm : out'.faults ≡ out.faults
+      calm = printed_calm (printed (run program).events) out out' prints
+
+      holds : HoldsPlain told.files names program
+      holds = held (Run names) is_read program told
+
+      -- the call did what was answered, where `note` got what goes with the status
+      did_run : (status : Status) → status ≡ run_status (run program).ending → IfSome note.held (λ held. note'.held ≡ Some (held ++ run_line names (run program).ending)) → Did (answer_of words told.files input) before after status
+      did_run status same noted =
+          subst (λ answer. Did answer before after status) (sym (answers program told))
+          (record {
+            same_status = same;
+            files = still_told folder.files folder'.files told.files told.is_told (asked_all names finds.sources folder folder' finds.finds).unchanged;
+            out = each_some out.held _ (λ held g. printed_whole (printed (run program).events) out out' held g prints);
+            note = noted;
+            rest = each_some source.left _ (λ held g. takes_all held g);
+          })
+        where
+          takes_all : (left : List ℕ) → source.left ≡ Some left → source.left ≡ Some (run program).rest
+          takes_all left g = left_is source.left (input_told source.left) g ∙ ap Some (sym (rest_kept program input default_turns))
+            where
+              left_is : (held : Option (List ℕ)) → IsTold held input → {left : List ℕ} → held ≡ Some left → held ≡ Some input
+              left_is None h e = absurd (cc e)
+              left_is (Some left) h e = ap Some h
+
+      -- the program ended with an exit value from 0 to 63
+      exit_promise : (value : ℕ) → value ≤ 63 → run_status (run program).ending ≡ Exit value → run_line names (run program).ending ≡ [] → note' ≡ note → Promise words before after (Exit value)
+      exit_promise value little e no_line quiet =
+          let same : note'.faults ≡ note.faults = ap (λ n. n.faults) quiet in
+          let did = did_run (Exit value) (sym e) (each_some note.held _ (λ held g. ap (λ n. n.held) quiet ∙ (g ∙ ap Some (sym (append-nil held) ∙ ap (λ line. held ++ line) (sym no_line))))) in (
+            told.files,
+            input,
+            told.is_told,
+            input_told source.left,
+            keeps words told.files input before after (Exit value)
+                (λ calm. inl did)
+                (λ _. did)
+                (runs_only told.files (Exit value))
+                (little, (Run names, program, reads (Run names) is_read, holds, e))
+                (subst (λ meant. Settles before after meant (Exit value)) (sym (ap (λ answer. answer.status) (answers program told) ∙ e)) (inl (inl refl)))
+                (λ none. absurd (begins (Run names) is_read none))
+                (hides_note (Exit value) (cause.stayed refl) calm (λ lt. absurd (omega arith)))
+                (grows cause (stays_grown out.faults out'.faults calm) (omega arith, omega arith))
+                (stands_prefix program told (printed (run program).events) (Ok tt) (prefix_whole (printed (run program).events)) prints)
+                (acts (Run names) is_read told.files (answer_of words told.files input) (Exit value) (inr (asked_all names finds.sources folder folder' finds.finds, subst (λ answer. Prints answer.out out out' (Ok tt)) (sym (answers program told)) prints)))
+                quiet
+                refl,
+          )
+
+      -- memory ran out in making the line
+      line_memory_promise : Tried no_memory_line note note' → Promise words before after Memory
+      line_memory_promise tried =
+          memory_at (begins (Run names) is_read) told.files told.is_told calm
+          (stands_prefix program told (printed (run program).events) (Ok tt) (prefix_whole (printed (run program).events)) prints) cause
+          (acts (Run names) is_read told.files (answer_of words told.files input) Memory
+          (inr (
+            asked_all names finds.sources folder folder' finds.finds,
+            (printed (run program).events, subst (λ answer. IsPrefix (printed (run program).events) answer.out) (sym (answers program told)) (prefix_whole (printed (run program).events)), prints),
+          )))
+          tried
+
+      -- the program ended so, which has this status and its line
+      line_promise : (meant status : Status) (line : List ℕ) → run_status (run program).ending ≡ meant → run_line names (run program).ending ≡ line → IsLineOf words told.files input meant line → (Put line note note' (Ok tt) → Noted words told.files input before after meant) → (EndsWith words told.files input meant → Cause words told.files input before after meant) → (Rose note.faults note'.faults → Excused before after meant) → (Prints (printed (run program).events) out out' (Ok tt) → Printed (ran names (run program) told.files) before after meant) → Tells line meant note note' status → Promise words before after status
+      line_promise meant status line e f is_line noted caused excuse given tells =
+          let ends = tell_ends meant status line note note' tells in
+          let did = λ (s : Status) (is : s ≡ meant) (put : Put line note note' (Ok tt)). did_run s (is ∙ sym e) (each_some note.held _ (λ held g. gave note.held note'.held held line g put.taken ∙ ap (λ line. Some (held ++ line)) (sym f))) in (
+            told.files,
+            input,
+            told.is_told,
+            input_told source.left,
+            keeps words told.files input before after status
+                (λ calm. let whole = tell_calm meant status line note note' tells calm.note in inl (did status whole.1 whole.0))
+                (finished_told told.files input meant status line (did meant refl) tells)
+                (runs_only told.files status)
+                (by_end (λ s. Cause words told.files input before after s) meant status ends (caused (Run names, program, reads (Run names) is_read, holds, e)) inr)
+                (subst (λ other. Settles before after other status) (sym (ap (λ answer. answer.status) (answers program told) ∙ e))
+                (by_end (λ s. Settles before after meant s) meant status ends (inl (inl refl)) (λ rose. inr (excuse rose))))
+                (λ none. absurd (begins (Run names) is_read none))
+                (hides_note status (cause.stayed refl) calm (note_told meant status ends))
+                (grows cause (stays_grown out.faults out'.faults calm) (tell_grows meant status line note note' tells))
+                (stands_prefix program told (printed (run program).events) (Ok tt) (prefix_whole (printed (run program).events)) prints)
+                (acts (Run names) is_read told.files (answer_of words told.files input) status
+                (inr (
+                  asked_all names finds.sources folder folder' finds.finds,
+                  subst (λ answer. Printed answer before after status) (sym (answers program told))
+                      (by_end (λ s. Printed (ran names (run program) told.files) before after s) meant status ends (given prints) (λ rose. inr (rose, prints))),
+                )))
+                (noted_told told.files input meant status line is_line noted tells)
+                refl,
+          )
+
+      -- the program halted, needs more turns, or ended with another exit value
+      abbrev ended_so : Status → List ℕ → Type 0
+      ended_so meant line = (run_status (run program).ending ≡ meant) × (run_line names (run program).ending ≡ line)
+
+      halt_promise : (status : Status) (line : List ℕ) → ended_so outcomes.Halted line → MakesAndTells line outcomes.Halted note note' status → Promise words before after status
+      halt_promise status line (e, f) (inl tells) =
+          let is_line : IsLineOf words told.files input outcomes.Halted line = (names, program, reads (Run names) is_read, holds, e, sym f) in
+          line_promise outcomes.Halted status line e f is_line (λ put. (line, is_line, put)) (λ h. h) (λ rose. inr (inr rose)) (λ prints. prints) tells
+      halt_promise status line ended (inr (tried, e)) = at_status (Run names) is_read Memory status e (line_memory_promise tried)
+
+      turns_promise : (status : Status) (line : List ℕ) → ended_so outcomes.TurnsSpent line → MakesAndTells line outcomes.TurnsSpent note note' status → Promise words before after status
+      turns_promise status line (e, f) (inl tells) =
+          let is_line : IsLineOf words told.files input outcomes.TurnsSpent line = (names, program, reads (Run names) is_read, holds, e, sym f) in
+          line_promise outcomes.TurnsSpent status line e f is_line (λ put. (line, is_line, put)) (λ h. h) (λ rose. inr (inr rose)) (λ prints. prints) tells
+      turns_promise status line ended (inr (tried, e)) = at_status (Run names) is_read Memory status e (line_memory_promise tried)
+
+      value_promise : (status : Status) (line : List ℕ) → ended_so outcomes.ExitValue line → MakesAndTells line outcomes.ExitValue note note' status → Promise words before after status
+      value_promise status line (e, f) (inl tells) =
+          let is_line : IsLineOf words told.files input outcomes.ExitValue line = (names, program, reads (Run names) is_read, holds, e, sym f) in
+          line_promise outcomes.ExitValue status line e f is_line (λ put. (line, is_line, put)) (λ h. h) (λ rose. inr (inr rose)) (λ prints. prints) tells
+      value_promise status line ended (inr (tried, e)) = at_status (Run names) is_read Memory status e (line_memory_promise tried)
+
+      -- the program ended so
+      ended_promise : (end : End) (status : Status) → ending_of end ≡ (run program).ending → IsDefined end → TellsEnd names end note note' status → Promise words before after status
+      ended_promise (end.Done (pos value)) status e defined tells = at (nat_le value 63) refl
+        where
+          at : (small : Bool) → nat_le value 63 ≡ small → Promise words before after status
+          at true small =
+              let is : run_status (run program).ending ≡ Exit value = ap run_status (sym e) ∙ ap (λ (b : Bool). if b then Exit value else outcomes.ExitValue) small in
+              let no_line : run_line names (run program).ending ≡ [] = ap (run_line names) (sym e) ∙ ap (λ (b : Bool). if b then [] else exit_value_line (pos value)) small in
+              let h : TellsAs (Exit value) [] note note' status = subst (λ (b : Bool). TellsAs (if b then Exit value else outcomes.ExitValue) (if b then [] else exit_value_line (pos value)) note note' status) small tells in
+              at_status (Run names) is_read (Exit value) status h.0 (exit_promise value (leb-true value 63 small) is no_line h.1)
+          at false large =
+              let is : run_status (run program).ending ≡ outcomes.ExitValue = ap run_status (sym e) ∙ ap (λ (b : Bool). if b then Exit value else outcomes.ExitValue) large in
+              let has_line : run_line names (run program).ending ≡ exit_value_line (pos value) = ap (run_line names) (sym e) ∙ ap (λ (b : Bool). if b then [] else exit_value_line (pos value)) large in
+              let h : TellsAs outcomes.ExitValue (exit_value_line (pos value)) note note' status = subst (λ (b : Bool). TellsAs (if b then Exit value else outcomes.ExitValue) (if b then [] else exit_value_line (pos value)) note note' status) large tells in
+              value_promise status (exit_value_line (pos value)) (is, has_line) h
+      ended_promise (end.Done (negsuc below)) status e defined tells = value_promise status (exit_value_line (negsuc below)) (ap run_status (sym e), ap (run_line names) (sym e)) tells
+      ended_promise (end.Halt kind file line) status e defined tells = halt_promise status (run_line names (Halt kind file line)) (ap run_status (sym e), ap (run_line names) (sym e)) tells
+      ended_promise end.TurnsSpent status e defined tells = turns_promise status turns_spent_line (ap run_status (sym e), ap (run_line names) (sym e)) tells
+      ended_promise (end.Stuck function) status e defined tells = absurd (defined function refl)
+
+    -- the program was run to its end
+    pub end_promise : (end : End) (status : Status) → RunsFiles names folder folder' out out' (Ok end) → HasCause false folder.faults folder'.faults → TellsEnd names end note note' status → Promise words before after status
+    end_promise end status (program, finds, ran, defined) cause tells =
+        let (e, prints) = ran (input_of source.left) in
+        ended_promise program finds prints cause end status e defined tells
 
     -- `out` failed
     run_sink_promise : RunsFiles names folder folder' out out' (Err stop.Sink) → HasCause false folder.faults folder'.faults → Tried output_fault_line note note' → Promise words before after SinkFault
-    run_sink_promise (program, finds, prints) cause tried =
+    run_sink_promise (program, finds, ran) cause tried =
         let told = told_accepted finds in
-        let input = input_of source.left in
-        let e = answers input program told in
-        let failed = printed_rose (ended program.texts) out out' (record {}) prints in
+        let prints : Prints (printed (run program).events) out out' (Err (record {})) = ran (input_of source.left) in
+        let e = answers program told in
+        let failed = printed_rose (printed (run program).events) out out' (record {}) prints in
         sink_promise (Run names) is_read told.files told.is_told
-        (stands_prefix input program told (Err (record {})) (input_told source.left) prints)
-        (subst (λ answer. Excused before after answer.status) (sym e) (inr failed.0))
+        (stands_prefix program told (printed (run program).events) (Err (record {})) (prefix_whole (printed (run program).events)) prints)
+        (subst (λ answer. Excused before after answer.status) (sym e) (run_yields before after (run program).ending (inr failed.0)))
         failed.0 (failed.1, failed.2) cause (runs_only told.files SinkFault)
-        (inr (asked_all names finds.sources folder folder' finds.finds, subst (λ answer. Prints answer.out out out' (Err (record {}))) (sym e) prints))
+        (inr (asked_all names finds.sources folder folder' finds.finds, inl (subst (λ answer. Prints answer.out out out' (Err (record {}))) (sym e) prints)))
+        tried
+
+    -- memory ran out in the run
+    run_memory_promise : (program : Plain) → FindsAccepted names (Some program) folder folder' → RanProgram program out out' (Err fault.Mem) → HasCause false folder.faults folder'.faults → Tried no_memory_line note note' → Promise words before after Memory
+    run_memory_promise program finds ran cause tried =
+        let told = told_accepted finds in
+        let (bytes, more, prints) = ran (input_of source.left) in
+        let e = answers program told in
+        memory_at (begins (Run names) is_read) told.files told.is_told (printed_calm bytes out out' prints)
+        (stands_prefix program told bytes (Ok tt) more prints) cause
+        (acts (Run names) is_read told.files (answer_of words told.files (input_of source.left)) Memory
+        (inr (asked_all names finds.sources folder folder' finds.finds, (bytes, subst (λ answer. IsPrefix bytes answer.out) (sym e) more, prints))))
         tried
 
     -- the program was not run to its end
-    pub stop_promise : (why : Stop) (status : Status) → RunsFiles names folder folder' out out' (Err why) → HasCause (is_folder_fault {A = ℕ} (Err why)) folder.faults folder'.faults → TellsStop why note note' status → Promise words before after status
+    pub stop_promise : (why : Stop) (status : Status) → RunsFiles names folder folder' out out' (Err why) → HasCause (is_folder_fault {A = End} (Err why)) folder.faults folder'.faults → TellsStop why note note' status → Promise words before after status
     stop_promise stop.Sink status ran cause (tried, e) = at_status (Run names) is_read SinkFault status e (run_sink_promise ran cause tried)
     stop_promise (stop.NoFile name) status (stops, same) cause tells = stopped_promise (Run names) is_read (stop.NoFile name) status stops same cause tells
     stop_promise (stop.Broken name rule) status (stops, same) cause tells = stopped_promise (Run names) is_read (stop.Broken name rule) status stops same cause tells
     stop_promise stop.NotBuilt status (stops, same) cause tells = stopped_promise (Run names) is_read stop.NotBuilt status stops same cause tells
     stop_promise stop.Folder status (stops, same) cause tells = stopped_promise (Run names) is_read stop.Folder status stops same cause tells
-    stop_promise stop.Mem status (stops, same) cause tells = stopped_promise (Run names) is_read stop.Mem status stops same cause tells
+    stop_promise stop.Mem status (inl (stops, same)) cause tells = stopped_promise (Run names) is_read stop.Mem status stops same cause tells
+    stop_promise stop.Mem status (inr (program, finds, ran)) cause (tried, e) = at_status (Run names) is_read Memory status e (run_memory_promise program finds ran cause tried)
 
   -- `emit` of files
   module _ (name : List ℕ) (names : List (List ℕ)) (is_read : command_of words ≡ Some (Emit name names)) where
@@ -513,11 +644,11 @@ module _ (words : List (List ℕ)) (folder folder' : FolderState) (source : Sour
     command = Emit name names
 
     -- a prefix of the line is on `out`
-    line_prefix : (input : List ℕ) (program : Straight) (told : Accepted folder.files names (Some program)) (result : Result (Unit {0}) Failed) → IsTold source.left input → Put (emitted_line (c_name name) (written program)) out out' result → GoesNoFurther (answer_of words told.files input) input before after
+    line_prefix : (input : List ℕ) (program : Plain) (told : Accepted folder.files names (Some program)) (result : Result (Unit {0}) Failed) → IsTold source.left input → Put (emitted_line (c_name name) (written program)) out out' result → GoesNoFurther (answer_of words told.files input) input before after
     line_prefix input program told result is_left put = record {
       out = each_some out.held _ (λ held e.
           let prefix = gave_prefix out.held out'.held held (emitted_line (c_name name) (written program)) result e put.taken in
-          (prefix.0, subst (λ whole. IsPrefix prefix.0 whole) (sym (ap (λ answer. answer.out) (answers_straight command is_read program told input))) prefix.1, prefix.2));
+          (prefix.0, subst (λ whole. IsPrefix prefix.0 whole) (sym (ap (λ answer. answer.out) (answers_plain command is_read program told input))) prefix.1, prefix.2));
       taken = takes_nothing told.files input is_left;
     }
 
@@ -531,14 +662,13 @@ module _ (words : List (List ℕ)) (folder folder' : FolderState) (source : Sour
         record { done = λ value e. (zero value e, wrote); not_told = λ e more. wrote }
 
     -- what was written is the C of the program
-    wrote_c_of : (program : Straight) (told : Accepted folder.files names (Some program)) → AskedAndWrote names (c_name name) (written program) (Ok tt) folder folder' → CText (written program) (lined (tree_of program)) → WroteC name names told.files before after
-    wrote_c_of program told wrote is_text =
-        let straight = held command is_read program told in
+    wrote_c_of : (program : Plain) (told : Accepted folder.files names (Some program)) → AskedAndWrote names (c_name name) (written program) (Ok tt) folder folder' → IsTreeOf program (tree_of program) → CText (written program) (lined (tree_of program)) → WroteC name names told.files before after
+    wrote_c_of program told wrote is_tree is_text =
         record {
           program = program;
-          source = straight;
+          source = held command is_read program told;
           folder = written_told folder.files folder'.files told.files (c_name name) (written program) told.is_told wrote.gives;
-          is_c = text_is_c program straight.3.2.well_formed is_text;
+          is_c = text_is_c program is_tree is_text;
         }
 
     -- the C was written and told
@@ -549,8 +679,8 @@ module _ (words : List (List ℕ)) (folder folder' : FolderState) (source : Sour
         let files = told.files in
         let input = input_of source.left in
         let is_left = input_told source.left in
-        let straight = held command is_read program told in
-        let e = answers_straight command is_read program told input in
+        let plain = held command is_read program told in
+        let e = answers_plain command is_read program told input in
         let line = emitted_line (c_name name) (written program) in
         let calm : out'.faults ≡ out.faults = tells.told.cause.stayed refl in
         let same : note'.faults ≡ note.faults = ap (λ n. n.faults) quiet in
@@ -570,14 +700,14 @@ module _ (words : List (List ℕ)) (folder folder' : FolderState) (source : Sour
           keeps words files input before after (Exit 0)
               (λ calm. inl did)
               (λ _. did)
-              (emits files (Exit 0) (wrote_c_of program told tells.writes.wrote tells.is_text) (λ value e. let zero : value ≡ 0 = cc in zero))
-              (omega arith, (command, program, reads command is_read, straight, refl))
+              (emits files (Exit 0) (wrote_c_of program told tells.writes.wrote tells.is_tree tells.is_text) (λ value e. let zero : value ≡ 0 = cc in zero))
+              (omega arith, (command, program, reads command is_read, plain, refl))
               (subst (λ meant. Settles before after meant (Exit 0)) (sym (ap (λ answer. answer.status) e)) (inl (inl refl)))
               (λ none. absurd (begins command is_read none))
               (hides_note (Exit 0) (cause.stayed refl) calm (λ lt. absurd (omega arith)))
               (grows cause (stays_grown out.faults out'.faults calm) (omega arith, omega arith))
               (line_prefix input program told (Ok tt) is_left tells.told)
-              (acts command is_read files (answer_of words files input) (Exit 0) (inr ((program, straight, tells.writes.wrote), subst (λ answer. Put answer.out out out' (Ok tt)) (sym e) tells.told)))
+              (acts command is_read files (answer_of words files input) (Exit 0) (inr ((program, plain, tells.writes.wrote), subst (λ answer. Put answer.out out out' (Ok tt)) (sym e) tells.told)))
               quiet
               refl,
         )
@@ -588,13 +718,13 @@ module _ (words : List (List ℕ)) (folder folder' : FolderState) (source : Sour
         let program = tells.program in
         let told = told_accepted tells.writes.finds in
         let input = input_of source.left in
-        let e = answers_straight command is_read program told input in
+        let e = answers_plain command is_read program told input in
         let rose : Rose out.faults out'.faults = tells.told.cause.rose refl in
         sink_promise command is_read told.files told.is_told
         (line_prefix input program told (Err (record {})) (input_told source.left) tells.told)
         (subst (λ answer. Excused before after answer.status) (sym e) (inr rose))
         rose (tells.told.cause.no_lower, tells.told.cause.by_one) cause
-        (emits told.files SinkFault (wrote_c_of program told tells.writes.wrote tells.is_text) (λ value e. absurd (cc e)))
+        (emits told.files SinkFault (wrote_c_of program told tells.writes.wrote tells.is_tree tells.is_text) (λ value e. absurd (cc e)))
         (inr ((program, held command is_read program told, tells.writes.wrote), subst (λ answer. Put answer.out out out' (Err (record {}))) (sym e) tells.told))
         tried
 

@@ -1,29 +1,30 @@
 -- The parts of a promise, from what the folder held and what was put.
-use Rattle.std.proofs.Common.{◌≡◌, ℕ, ◌≤◌, List, Option, Some, None, refl, sym, ap, ◌∙◌, subst, inl, inr}
-use Rattle.std.specs.Prelude.{◌⊎◌, pos, Result, Ok, Err}
+use Rattle.std.proofs.Common.{◌≡◌, ℕ, List, Bool, true, false, Option, Some, None, refl, sym, ap, ◌∙◌, subst, inl, inr}
+use Rattle.std.specs.Prelude.{◌⊎◌, pos, negsuc, nat_le, if◌then◌else◌, Result, Ok, Err}
 use Rattle.sl_outside.specs.Folder.{Contents}
-use Rattle.sl_run.specs.Run.{Done}
+use Rattle.sl_run.specs.Run.{Ending, Done, Halt, TurnsSpent, StackSpent, Stuck}
 use Rattle.sl_tool.specs.declared.status.Status.{Status}
-use Rattle.sl_tool.specs.declared.status.Status.TheVariants.{Exit, Usage, Broken, NoFile, Memory, NotBuilt}
-use Rattle.sl_tool.specs.declared.straight.Straight.{Straight}
+use Rattle.sl_tool.specs.declared.status.Status.TheVariants.{Exit, Usage, Broken, NoFile, FolderFault, InputFault, SinkFault, Memory, NotBuilt}
+use Rattle.sl_tool.specs.declared.status.Status.TheVariants as status
+use Rattle.sl_plain.specs.declared.tree.Plain.{Plain}
 use Rattle.sl_text.specs.declared.rule.Rule.{Rule}
 use Rattle.sl_tool.specs.SourceFiles.{SourceFile, sources_of, first_broken_of, program_of}
-use Rattle.sl_tool.specs.Meaning.{run_of}
-use Rattle.sl_tool.specs.Words.{Command, Run, Emit, files_of, BeginsNoCommand}
+use Rattle.sl_plain.specs.Means.{plain_run}
+use Rattle.sl_tool.specs.Words.{Command, Run, Emit, files_of, Reads, BeginsNoCommand}
 use Rattle.sl_tool.specs.WordsReading.{command_of}
 use Rattle.sl_tool.specs.Texts.{usage_line, broken_line, no_file_line, not_built_line}
-use Rattle.sl_tool.specs.Answer.{Answer, answer_of, answer_to_straight, rejected, ran, default_turns}
+use Rattle.sl_tool.specs.Answer.{Answer, answer_of, answer_to_plain, rejected, ran, default_turns, exit_status, run_status}
 use Rattle.sl_tool.specs.Outside.{Outside, FolderRose, OutRose, NoteRose}
-use Rattle.sl_tool.specs.Promise.{IsUnlessMemory, HoldsStraight, Did, Complete, Finished, RanAs, Runs, Emits, GivesExit, Cause, Comes, HidesNoFault, CountsGrow, GoesNoFurther, Acts, Noted, Keeps}
+use Rattle.sl_tool.specs.Promise.{IsUnlessMemory, HoldsPlain, Did, Complete, Finished, RanAs, Runs, Emits, ends_with, Cause, Comes, HidesNoFault, CountsGrow, GoesNoFurther, Acts, Noted, Keeps}
 use Rattle.sl_tool.proofs.Reading.{command_of_reading, no_command}
 use Rattle.sl_tool.proofs.Sources.{missing_found, sources_found, accepted_found, broken_found, program_found, found_program, no_program_found}
-use Rattle.sl_tool.proofs.Walking.{run_is}
-use Rattle.sl_tool.proofs.Answering.{answer_usage, answer_broken, answer_no_file, answer_not_built, answer_straight, ran_is}
+use Rattle.sl_plain.proofs.Rest.{rest_kept}
+use Rattle.sl_tool.proofs.Answering.{answer_usage, answer_broken, answer_no_file, answer_not_built, answer_plain}
 
--- the answer to a straight file
-pub answer_held : (words : List (List ℕ)) (files : Contents) (input : List ℕ) (command : Command) (program : Straight) → command_of words ≡ Some command → HoldsStraight files (files_of command) program → answer_of words files input ≡ answer_to_straight command program files input
-answer_held words files input command program reads (sources, are, accepted, straight) =
-    answer_straight words files input command sources program reads (sources_found files (files_of command) sources are) (accepted_found sources accepted) (program_found sources program straight)
+-- the answer to a plain file
+pub answer_held : (words : List (List ℕ)) (files : Contents) (input : List ℕ) (command : Command) (program : Plain) → command_of words ≡ Some command → HoldsPlain files (files_of command) program → answer_of words files input ≡ answer_to_plain command program files input
+answer_held words files input command program reads (sources, are, accepted, plain) =
+    answer_plain words files input command sources program reads (sources_found files (files_of command) sources are) (accepted_found sources accepted) (program_found sources program plain)
 
 -- what holds of each answer holds of the one to these words
 pub by_answer : (words : List (List ℕ)) (files : Contents) (input : List ℕ) (P : Answer → Type 0)
@@ -31,18 +32,16 @@ pub by_answer : (words : List (List ℕ)) (files : Contents) (input : List ℕ) 
     → ((name : List ℕ) → P (rejected NoFile (no_file_line name) files input))
     → ((source : SourceFile) (rule : Rule) → P (rejected Broken (broken_line source.name 1 1 rule) files input))
     → P (rejected NotBuilt not_built_line files input)
-    → ((command : Command) (program : Straight) → program.value ≤ 63 → P (answer_to_straight command program files input))
+    → ((command : Command) (program : Plain) → P (answer_to_plain command program files input))
     → P (answer_of words files input)
-by_answer words files input P usage no_file broken not_built straight = at_command (command_of words) refl
+by_answer words files input P usage no_file broken not_built plain = at_command (command_of words) refl
   where
     is : (answer : Answer) → answer_of words files input ≡ answer → P answer → P (answer_of words files input)
     is answer e h = subst P (sym e) h
 
-    at_program : (command : Command) (sources : List SourceFile) → command_of words ≡ Some command → sources_of files (files_of command) ≡ Ok sources → first_broken_of sources ≡ None → (found : Option Straight) → program_of sources ≡ found → P (answer_of words files input)
+    at_program : (command : Command) (sources : List SourceFile) → command_of words ≡ Some command → sources_of files (files_of command) ≡ Ok sources → first_broken_of sources ≡ None → (found : Option Plain) → program_of sources ≡ found → P (answer_of words files input)
     at_program command sources reads there accepted None e = is _ (answer_not_built words files input command sources reads there accepted e) not_built
-    at_program command sources reads there accepted (Some program) e =
-        let one = found_program sources program e in
-        is _ (answer_straight words files input command sources program reads there accepted e) (straight command program one.2.well_formed.value)
+    at_program command sources reads there accepted (Some program) e = is _ (answer_plain words files input command sources program reads there accepted e) (plain command program)
 
     at_sources : (command : Command) (sources : List SourceFile) → command_of words ≡ Some command → sources_of files (files_of command) ≡ Ok sources → (found : Option (SourceFile × Rule)) → first_broken_of sources ≡ found → P (answer_of words files input)
     at_sources command sources reads there None e = at_program command sources reads there e (program_of sources) refl
@@ -56,21 +55,23 @@ by_answer words files input P usage no_file broken not_built straight = at_comma
     at_command None e = is _ (answer_usage words files input e) (usage e)
     at_command (Some command) e = at_files command e (sources_of files (files_of command)) refl
 
--- what an answer leaves of the input: all of it, since no straight program reads
+-- what an answer leaves of the input: all of it, since no plain program reads
 pub answer_rest : (words : List (List ℕ)) (files : Contents) (input : List ℕ) → (answer_of words files input).rest ≡ input
-answer_rest words files input = by_answer words files input (λ answer. answer.rest ≡ input) (λ _. refl) (λ _. refl) (λ _ _. refl) refl (λ command program _. at command program)
+answer_rest words files input = by_answer words files input (λ answer. answer.rest ≡ input) (λ _. refl) (λ _. refl) (λ _ _. refl) refl at
   where
-    at : (command : Command) (program : Straight) → (answer_to_straight command program files input).rest ≡ input
-    at (Run names) program = ap (λ run. run.rest) (run_is program input 999999999)
+    at : (command : Command) (program : Plain) → (answer_to_plain command program files input).rest ≡ input
+    at (Run names) program = rest_kept program input default_turns
     at (Emit name names) program = refl
 
--- a command on a straight program ends with the status of its exit value
-gives_status : (command : Command) (program : Straight) (files : Contents) (input : List ℕ) (value : ℕ) → program.value ≤ 63 → GivesExit command program input value → (answer_to_straight command program files input).status ≡ Exit value
-gives_status (Run names) program files input value small ends =
-    let done : Done (pos program.value) ≡ Done (pos value) = sym (ap (λ run. run.ending) (run_is program input 999999999)) ∙ ends in
-    let same : program.value ≡ value = cc in
-    ap (λ answer. answer.status) (ran_is program files input small) ∙ ap Exit same
-gives_status (Emit name names) program files input value small zero = ap Exit (sym zero)
+-- a command on a plain program has the status with which it ends
+pub gives_status : (command : Command) (program : Plain) (files : Contents) (input : List ℕ) → (answer_to_plain command program files input).status ≡ ends_with command program input
+gives_status (Run names) program files input = refl
+gives_status (Emit name names) program files input = refl
+
+-- neither of two
+neither : {A B : Type 0} → ¬ A → ¬ B → ¬ (A ⊎ B)
+neither a b (inl h) = a h
+neither a b (inr h) = b h
 
 -- a fault that a status yields to
 abbrev pub Excused : Outside → Outside → Status → Type 0
@@ -79,7 +80,47 @@ Excused before after Usage = NoteRose before after
 Excused before after Broken = FolderRose before after ⊎ NoteRose before after
 Excused before after NoFile = FolderRose before after ⊎ NoteRose before after
 Excused before after NotBuilt = FolderRose before after
-Excused before after other = ⊥
+Excused before after other = FolderRose before after ⊎ OutRose before after ⊎ NoteRose before after
+
+-- the status of a run yields to a fault of the folder, and to one of `out`
+pub run_yields : (before after : Outside) (ending : Ending) → FolderRose before after ⊎ OutRose before after → Excused before after (run_status ending)
+run_yields before after (Done (pos value)) rose = at (nat_le value 63)
+  where
+    at : (small : Bool) → Excused before after (if small then Exit value else status.ExitValue)
+    at true = rose
+    at false = more rose
+      where
+        more : FolderRose before after ⊎ OutRose before after → FolderRose before after ⊎ OutRose before after ⊎ NoteRose before after
+        more (inl h) = inl h
+        more (inr h) = inr (inl h)
+run_yields before after (Done (negsuc below)) (inl h) = inl h
+run_yields before after (Done (negsuc below)) (inr h) = inr (inl h)
+run_yields before after (Halt kind file line) (inl h) = inl h
+run_yields before after (Halt kind file line) (inr h) = inr (inl h)
+run_yields before after TurnsSpent (inl h) = inl h
+run_yields before after TurnsSpent (inr h) = inr (inl h)
+run_yields before after StackSpent (inl h) = inl h
+run_yields before after StackSpent (inr h) = inr (inl h)
+run_yields before after (Stuck function) (inl h) = inl h
+run_yields before after (Stuck function) (inr h) = inr (inl h)
+
+-- with no fault of any of the three, no status yields
+none_yields : (before after : Outside) → ¬ FolderRose before after → ¬ OutRose before after → ¬ NoteRose before after → (meant : Status) → ¬ Excused before after meant
+none_yields before after folder out note (Exit value) = neither folder out
+none_yields before after folder out note Usage = note
+none_yields before after folder out note Broken = neither folder note
+none_yields before after folder out note status.Halted = neither folder (neither out note)
+none_yields before after folder out note status.TurnsSpent = neither folder (neither out note)
+none_yields before after folder out note status.StackSpent = neither folder (neither out note)
+none_yields before after folder out note status.ExitValue = neither folder (neither out note)
+none_yields before after folder out note status.NotC = neither folder (neither out note)
+none_yields before after folder out note status.Stuck = neither folder (neither out note)
+none_yields before after folder out note NoFile = neither folder note
+none_yields before after folder out note FolderFault = neither folder (neither out note)
+none_yields before after folder out note InputFault = neither folder (neither out note)
+none_yields before after folder out note SinkFault = neither folder (neither out note)
+none_yields before after folder out note Memory = neither folder (neither out note)
+none_yields before after folder out note NotBuilt = folder
 
 -- the status is the one that was meant, or memory ran out, or there was a fault that it yields to
 abbrev pub Settles : Outside → Outside → Status → Status → Type 0
@@ -90,23 +131,18 @@ settled : (before after : Outside) (meant status : Status) → ¬ Excused before
 settled before after meant status calm (inl h) = h
 settled before after meant status calm (inr h) = absurd (calm h)
 
--- neither of two
-neither : {A B : Type 0} → ¬ A → ¬ B → ¬ (A ⊎ B)
-neither a b (inl h) = a h
-neither a b (inr h) = b h
-
 module _ (words : List (List ℕ)) (files : Contents) (input : List ℕ) (before after : Outside) (status : Status) where
-  -- a complete call of `run` on a straight file ran its program
+  -- a complete call of `run` on a plain file ran its program
   runs : Complete words files input before after status → Runs words files input before after status
   runs complete names program reads held calm = at (complete calm)
     where
-      same : answer_of words files input ≡ ran (run_of program input default_turns) files
+      same : answer_of words files input ≡ ran names (plain_run program input default_turns) files
       same = answer_held words files input (Run names) program (command_of_reading words (Run names) reads) held
 
-      ran_as : Did (ran (run_of program input default_turns) files) before after status → RanAs (run_of program input default_turns) before after status
+      ran_as : Did (ran names (plain_run program input default_turns) files) before after status → RanAs (plain_run program input default_turns) before after status
       ran_as did = record { ended = did.same_status; printed_bytes = did.out; rest = did.rest }
 
-      at : Did (answer_of words files input) before after status ⊎ (status ≡ Memory) → RanAs (run_of program input default_turns) before after status ⊎ (status ≡ Memory)
+      at : Did (answer_of words files input) before after status ⊎ (status ≡ Memory) → RanAs (plain_run program input default_turns) before after status ⊎ (status ≡ Memory)
       at (inl did) = inl (ran_as (subst (λ answer. Did answer before after status) same did))
       at (inr memory) = inr memory
 
@@ -127,17 +163,22 @@ module _ (words : List (List ℕ)) (files : Contents) (input : List ℕ) (before
         let (sources, (command, reads, are), first) = asks in
         settled before after Broken status (neither calm quiet)
         (meant Broken (ap (λ answer. answer.status) (answer_broken words files input command sources source rule (command_of_reading words command reads) (sources_found files (files_of command) sources are) (broken_found sources source rule place first).0)));
+    ends = λ other ends calm dry quiet hush.
+        let (command, program, reads, held, gives) = ends in
+        settled before after other status (none_yields before after calm quiet hush other) (meant other (ended command program reads held ∙ gives));
     exit = λ value ends calm dry quiet.
         let (command, program, reads, held, gives) = ends in
-        settled before after (Exit value) status (neither calm quiet)
-        (meant (Exit value) (ap (λ answer. answer.status) (answer_held words files input command program (command_of_reading words command reads) held) ∙ gives_status command program files input value held.3.2.well_formed.value gives));
+        settled before after (Exit value) status (neither calm quiet) (meant (Exit value) (ended command program reads held ∙ gives));
   }
     where
       meant : (other : Status) → (answer_of words files input).status ≡ other → Settles before after other status
       meant other e = subst (λ meant. Settles before after meant status) e all
 
+      ended : (command : Command) (program : Plain) → Reads words command → HoldsPlain files (files_of command) program → (answer_of words files input).status ≡ ends_with command program input
+      ended command program reads held = ap (λ answer. answer.status) (answer_held words files input command program (command_of_reading words command reads) held) ∙ gives_status command program files input
+
   -- the whole promise, of its parts
-  pub keeps : Complete words files input before after status → Finished words files input before after status → Emits words files before after status → Cause words files input before after status → Settles before after (answer_of words files input).status status → (BeginsNoCommand words → ¬ NoteRose before after → status ≡ Usage) → HidesNoFault before after status → CountsGrow before after → GoesNoFurther (answer_of words files input) input before after → Acts words files (answer_of words files input) before after status → Noted words files before after status → after.input ≡ before.input → Keeps words files input before after status
+  pub keeps : Complete words files input before after status → Finished words files input before after status → Emits words files before after status → Cause words files input before after status → Settles before after (answer_of words files input).status status → (BeginsNoCommand words → ¬ NoteRose before after → status ≡ Usage) → HidesNoFault before after status → CountsGrow before after → GoesNoFurther (answer_of words files input) input before after → Acts words files (answer_of words files input) before after status → Noted words files input before after status → after.input ≡ before.input → Keeps words files input before after status
   keeps complete finished emits cause all at_once hides counts stands acts noted untouched = record {
     complete = complete;
     finished = finished;

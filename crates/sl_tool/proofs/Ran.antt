@@ -1,84 +1,54 @@
--- What stepping the tree of a straight program comes to.
-use Rattle.std.proofs.Common.{◌≡◌, ℕ, ◌≤◌, [], ◌∷◌, map, true, Some, None, refl, sym, ap, ◌∙◌, inl, inr, arith, All, Fits, w8}
-use Rattle.std.proofs.lemmas.List.Elements.{All-nil, All-cons, All-append, All-map}
-use Rattle.std.specs.Prelude.{pos, Ok, Err}
+-- What stepping the tree of a plain program comes to.
+use Rattle.std.proofs.Common.{◌≡◌, ℕ, List, [], refl, sym, ap, ◌∙◌, subst}
+use Rattle.std.specs.Prelude.{None, Result, Ok, Err}
 use Rattle.sl_outside.specs.Sink.{SinkState, Prints}
-use Rattle.sl_run.specs.Run.{Done, TurnsSpent, Stuck, Puts}
+use Rattle.sl_run.specs.Run.{Ending, Stuck}
 use Rattle.sl_run.specs.Outcome.{Outcome, printed}
-use Rattle.sl_run.proofs.Puts.{printed-puts}
+use Rattle.c_machine.specs.declared.ending.StepFault.TheVariants as fault
+use Rattle.c_machine.specs.declared.configuration.Configuration.{Configuration}
+use Rattle.c_machine.specs.declared.machine.Machine.{Machine}
+use Rattle.c_machine.specs.declared.machine.Standing.{Standing}
+use Rattle.c_machine.specs.declared.machine.Standing.TheVariants.{Going, Ended, Failed}
+use Rattle.c_machine.specs.Stepped.{ending_of}
+use Rattle.c_machine.specs.Ran.{ComesTo, Opened, Runs}
+use Rattle.c_machine.specs.Ran as machine
 use Rattle.c_tree.specs.declared.tree.CFile.{CFile}
-use Rattle.c_tree.specs.declared.tree.CExpr.TheVariants.{Const}
 use Rattle.c_tree.specs.Meaning.{c_run}
-use Rattle.sl_tool.specs.declared.straight.Straight.{Straight}
-use Rattle.sl_tool.specs.declared.stepping.Unfinished.TheVariants as unfinished
-use Rattle.sl_tool.specs.Straight.{IsProgram, ended}
-use Rattle.sl_tool.specs.Tree.{main_name, call_of, put_byte, return_value, start_of, method_of, tree_of}
+use Rattle.c_machine.specs.declared.ending.End.{End}
+use Rattle.c_machine.specs.declared.ending.StepFault.{StepFault}
+use Rattle.sl_plain.specs.declared.tree.Plain.{Plain}
+use Rattle.sl_plain.specs.Means.{plain_run}
+use Rattle.sl_tool.specs.Written.{tree_of, IsTreeOf}
 use Rattle.sl_tool.specs.Answer.{default_turns}
-use Rattle.sl_tool.specs.Stepping.{IsConstant, IsSimpleStmt, IsSimpleFunction, IsSimple, RanTree}
-use Rattle.sl_tool.proofs.Walking.{run_is}
-use Rattle.sl_tool.proofs.Printing.{prints_same}
-use Rattle.sl_tool.proofs.Tree.Names.{All-two}
-use Rattle.sl_tool.proofs.Tree.Meaning.{tree_means}
+use Rattle.sl_tool.specs.Parts.{Ran, RanTree, RanProgram, IsDefined}
 
--- the run of a straight program's tree
-abbrev run : CFile → Outcome
-run tree = c_run tree None [] default_turns
+-- a run of the machine, as it is said here
+as_ran : (run : Outcome) (m : Configuration) (out out' : SinkState) (result : Result End StepFault) → machine.Ran result run m out out' → Ran run out out' result
+as_ran run m out out' (Ok end) (e, prints, left) = (e, prints)
+as_ran run m out out' (Err fault.Sink) h = h
+as_ran run m out out' (Err fault.Mem) h = h
+as_ran run m out out' (Err fault.Input) h = absurd h
 
--- a constant with a sign
-constant : (number : ℕ) → IsConstant (Const true number)
-constant number = (true, number, refl)
+-- a machine that was opened on a file ran the file
+pub machine_ran : (tree file : CFile) (m m' : Machine) (out out' : SinkState) (result : Result End StepFault) → file ≡ tree → Opened (λ input. c_run file None input default_turns) default_turns m → Runs m.standing m out m' out' result → RanTree tree out out' result
+machine_ran tree file m m' out out' result e opened runs = subst (λ tree. RanTree tree out out' result) e (at m.standing opened.whole runs)
+  where
+    at : (standing : Standing) → ((input : List ℕ) → ComesTo standing m.at input (c_run file None input default_turns)) → Runs standing m out m' out' result → RanTree file out out' result
+    at Going comes (runs, stands, turns) input = as_ran (c_run file None input default_turns) m'.at out out' result (subst (λ run. machine.Ran result run m'.at out out') (comes input) (runs input))
+    at (Ended end) comes (is, stays, same) input =
+        subst (λ result. Ran (c_run file None input default_turns) out out' result) (sym is)
+        (subst (λ (run : Outcome). (ending_of end ≡ run.ending) × Prints (printed run.events) out out' (Ok tt)) (comes input) (refl, same))
+    at (Failed fault) comes runs input = absurd (comes input)
 
--- a return of one, and an `sl_put` of one
-return_simple : (value : ℕ) → IsSimpleStmt (return_value value)
-return_simple value = inr (inl (Some (Const true value), refl, constant value))
+module _ (program : Plain) (tree : CFile) (is : tree ≡ tree_of program) (means : IsTreeOf program (tree_of program)) where
+  -- the run of the tree is the program's
+  same_run : (input : List ℕ) → c_run tree None input default_turns ≡ plain_run program input default_turns
+  same_run input = ap (λ tree. c_run tree None input default_turns) is ∙ means.means input default_turns
 
-put_simple : (byte : ℕ) → IsSimpleStmt (put_byte byte)
-put_simple byte = inr (inr (Const true byte, refl, constant byte))
+  -- so the program was run
+  pub tree_ran : (out out' : SinkState) (result : Result End StepFault) → RanTree tree out out' result → RanProgram program out out' result
+  tree_ran out out' result ran input = subst (λ run. Ran run out out' result) (same_run input) (ran input)
 
--- the statements of the main method
-method_simple : (program : Straight) → All IsSimpleStmt (method_of program 0).body
-method_simple program =
-    All-append IsSimpleStmt (map put_byte (ended program.texts)) (return_value program.value ∷ [])
-    (All-map IsSimpleStmt put_byte (ended program.texts) (λ k byte less. put_simple _))
-    (All-cons IsSimpleStmt (return_value program.value) [] (return_simple program.value) (All-nil IsSimpleStmt))
-
--- the tree is simple
-pub tree_simple : (program : Straight) → IsSimple (tree_of program)
-unfolding tree_of
-tree_simple program =
-    All-two IsSimpleFunction (start_of program 0) (method_of program 0)
-    (record { called = refl; params = refl; vars = refl; body = All-two IsSimpleStmt (call_of (main_name program)) (return_value program.value) (inl (main_name program, refl)) (return_simple program.value) })
-    (record { called = refl; params = refl; vars = refl; body = method_simple program })
-
-module _ (program : Straight) (ok : IsProgram program) (tree : CFile) (is : tree ≡ tree_of program) where
-  -- it is done with the program's value, and has put its texts as lines
-  run_as : run tree ≡ record { ending = Done (pos program.value); events = map Puts (ended program.texts); rest = []; left = 999999999 }
-  unfolding tree_of
-  run_as = ap run is ∙ (tree_means 0 0 0 0 program ok [] default_turns ∙ run_is program [] 999999999)
-
-  ends : (run tree).ending ≡ Done (pos program.value)
-  ends = ap (λ run. run.ending) run_as
-
-  prints : printed (run tree).events ≡ ended program.texts
-  prints = ap (λ run. printed run.events) run_as ∙ printed-puts (ended program.texts)
-
-  -- stepped to its end, it gave the value, and the texts are printed
-  pub ran_value : (value : ℕ) (a b : SinkState) → RanTree tree default_turns a b (Ok value) → value ≡ program.value
-  ran_value value a b ran = let same : Done (pos value) ≡ Done (pos program.value) = sym (ran []).0 ∙ ends in cc
-
-  pub small_value : (value : ℕ) (a b : SinkState) → RanTree tree default_turns a b (Ok value) → Fits w8 value
-  small_value value a b ran = let same : value ≡ program.value = ran_value value a b ran in let small : program.value ≤ 63 = ok.value in omega arith
-
-  pub ran_prints : (value : ℕ) (a b : SinkState) → RanTree tree default_turns a b (Ok value) → Prints (ended program.texts) a b (Ok tt)
-  ran_prints value a b ran = prints_same a b (printed (run tree).events) (ended program.texts) (Ok tt) prints (ran []).1
-
-  -- stopped by the output, it printed up to what failed
-  pub ran_stopped : (a b : SinkState) → RanTree tree default_turns a b (Err unfinished.Sink) → Prints (ended program.texts) a b (Err (record {}))
-  ran_stopped a b ran = prints_same a b (printed (run tree).events) (ended program.texts) (Err (record {})) prints (ran [])
-
-  -- it needs no more turns than it has, and isn't stuck
-  pub ran_spent : (a b : SinkState) → ¬ RanTree tree default_turns a b (Err unfinished.TurnsSpent)
-  ran_spent a b ran = let same : TurnsSpent ≡ Done (pos program.value) = sym (ran []).0 ∙ ends in absurd (cc same)
-
-  pub ran_stuck : (a b : SinkState) → ¬ RanTree tree default_turns a b (Err unfinished.Stuck)
-  ran_stuck a b ran = let h = (ran []).0 in let same : Stuck h.0 ≡ Done (pos program.value) = sym h.1 ∙ ends in absurd (cc same)
+  -- and it isn't stuck
+  pub tree_defined : (out out' : SinkState) (end : End) → RanTree tree out out' (Ok end) → IsDefined end
+  tree_defined out out' end ran function stuck = means.never_stuck [] default_turns function (sym (ap (λ run. run.ending) (same_run [])) ∙ (sym (ran []).0 ∙ stuck))

@@ -5,10 +5,10 @@ use Rattle.std.specs.List.{All}
 use Rattle.std.proofs.lemmas.List.Elements.{All-nil, All-cons, All-head, All-tail}
 use Rattle.sl_outside.specs.Folder.{Contents}
 use Rattle.sl_text.specs.declared.rule.Rule.{Rule}
-use Rattle.sl_tool.specs.declared.straight.Straight.{Straight}
+use Rattle.sl_plain.specs.declared.tree.Plain.{Plain}
 use Rattle.sl_tool.specs.Accepting.{IsAccepted, first_broken}
-use Rattle.sl_tool.specs.SourceFiles.{SourceFile, names_of, AreSources, IsThere, IsFirstMissing, AreAccepted, IsFirstBrokenOf, AreStraight, with_source, sources_of, broken_or, first_broken_of, program_of}
-use Rattle.sl_tool.proofs.Reader.StraightReading.{straight_sound, straight_exactly}
+use Rattle.sl_tool.specs.SourceFiles.{SourceFile, names_of, AreSources, IsThere, IsFirstMissing, AreAccepted, IsFirstBrokenOf, ArePlain, with_source, sources_of, broken_or, first_broken_of, program_of}
+use Rattle.sl_plain.proofs.Files.Reading.{sound, exactly}
 use Rattle.sl_tool.proofs.Accepted.{found_first, none_found, accepted_none, first_found}
 
 -- two pairs that are one have the same parts
@@ -82,24 +82,24 @@ found_broken (other ∷ sources) source rule e = at (found_broken sources source
         subst (λ s. IsFirstBrokenOf (other ∷ sources) s rule 0) same.0
         ([], sources, refl, All-nil (λ source. IsAccepted source.bytes), found_first other.bytes rule (f ∙ ap Some same.1))
 
--- the program of one straight file is found
-pub program_found : (sources : List SourceFile) (program : Straight) → AreStraight sources program → program_of sources ≡ Some program
-program_found sources program (source, one, straight) = ap program_of one ∙ straight_exactly source.bytes program straight
+-- the program of one plain file is found
+pub program_found : (sources : List SourceFile) (program : Plain) → ArePlain sources program → program_of sources ≡ Some program
+program_found sources program (source, one, plain) = ap program_of one ∙ exactly source.bytes program plain
 
--- and where one is found, they are one straight file
-pub found_program : (sources : List SourceFile) (program : Straight) → program_of sources ≡ Some program → AreStraight sources program
+-- and where one is found, they are one plain file
+pub found_program : (sources : List SourceFile) (program : Plain) → program_of sources ≡ Some program → ArePlain sources program
 found_program [] program e = absurd (cc e)
-found_program (source ∷ []) program e = (source, refl, straight_sound source.bytes program e)
+found_program (source ∷ []) program e = (source, refl, sound source.bytes program e)
 found_program (source ∷ other ∷ sources) program e = absurd (cc e)
 
 -- sources that aren't have none
-pub no_program_found : (sources : List SourceFile) → ((program : Straight) → ¬ AreStraight sources program) → program_of sources ≡ None
+pub no_program_found : (sources : List SourceFile) → ((program : Plain) → ¬ ArePlain sources program) → program_of sources ≡ None
 no_program_found sources none = at (program_of sources) refl
   where
-    at : (found : Option Straight) → program_of sources ≡ found → program_of sources ≡ None
+    at : (found : Option Plain) → program_of sources ≡ found → program_of sources ≡ None
     at None e = e
     at (Some program) e = absurd (none program (found_program sources program e))
 
--- and where none is found, they aren't one straight file
-pub found_no_program : (sources : List SourceFile) → program_of sources ≡ None → (program : Straight) → ¬ AreStraight sources program
-found_no_program sources none program straight = let some : program_of sources ≡ Some program = program_found sources program straight in cc
+-- and where none is found, they aren't one plain file
+pub found_no_program : (sources : List SourceFile) → program_of sources ≡ None → (program : Plain) → ¬ ArePlain sources program
+found_no_program sources none program plain = let some : program_of sources ≡ Some program = program_found sources program plain in cc

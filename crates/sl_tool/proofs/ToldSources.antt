@@ -7,7 +7,7 @@ use Rattle.std.proofs.lemmas.Slice.Eq.{bytes_eq-Decides}
 use Rattle.std.proofs.lemmas.List.Elements.{All-nil, All-cons}
 use Rattle.sl_outside.specs.Folder.{Contents, FolderState}
 use Rattle.sl_text.specs.declared.rule.Rule.{Rule}
-use Rattle.sl_tool.specs.declared.straight.Straight.{Straight}
+use Rattle.sl_plain.specs.declared.tree.Plain.{Plain}
 use Rattle.sl_tool.specs.Accepting.{mark, first_broken}
 use Rattle.sl_tool.specs.SourceFiles.{SourceFile, names_of, AreSources, IsThere, IsFirstMissing, broken_or, first_broken_of, program_of}
 use Rattle.sl_tool.specs.Outside.{IsTold}
@@ -121,7 +121,7 @@ told_broken {names = names} {name = name} {rule = rule} {before = before} finds 
     at (Some held) are = record { files = held; is_told = refl; sources = finds.sources; are = are; broken = finds.broken }
 
 -- the files, where no source breaks a rule
-pub record Accepted (told : Option Contents) (names : List (List ℕ)) (program : Option Straight) : Type 0 where
+pub record Accepted (told : Option Contents) (names : List (List ℕ)) (program : Option Plain) : Type 0 where
   pub files : Contents
   pub is_told : IsTold told files
   pub sources : List SourceFile
@@ -158,7 +158,7 @@ first_accepted source sources e = at (first_broken source.bytes) refl
     at None f = f
     at (Some rule) f = let h : Some (source, rule) ≡ None = sym (ap (λ found. broken_or source found (first_broken_of sources)) f) ∙ e in absurd (cc h)
 
-untold_accepted : (names : List (List ℕ)) (program : Option Straight) (sources : List SourceFile) → names_of sources ≡ names → first_broken_of sources ≡ None → program_of sources ≡ program → Accepted None names program
+untold_accepted : (names : List (List ℕ)) (program : Option Plain) (sources : List SourceFile) → names_of sources ≡ names → first_broken_of sources ≡ None → program_of sources ≡ program → Accepted None names program
 untold_accepted names program [] named accepted is = record {
   files = λ _. None;
   is_told = tt;
@@ -176,7 +176,7 @@ untold_accepted names program (source ∷ sources) named accepted is = record {
   program_is = program_each source sources ∙ is;
 }
 
-pub told_accepted : {names : List (List ℕ)} {program : Option Straight} {before after : FolderState} → FindsAccepted names program before after → Accepted before.files names program
+pub told_accepted : {names : List (List ℕ)} {program : Option Plain} {before after : FolderState} → FindsAccepted names program before after → Accepted before.files names program
 told_accepted {names = names} {program = program} {before = before} finds = at before.files finds.finds.told
   where
     at : (told : Option Contents) → IfSome told (λ held. AreSources held names finds.sources) → Accepted told names program

@@ -9,8 +9,8 @@ use Rattle.sl_outside.specs.Counts.{HasCause, one_more}
 use Rattle.sl_outside.specs.Folder.{Contents, OthersStay, WriteGives, is_fault, WriteCall, GoesOn, FolderState}
 use Rattle.sl_outside.specs.Sink.{SinkState}
 use Rattle.sl_tool.specs.declared.stop.Stop.{Stop}
-use Rattle.sl_tool.specs.declared.straight.Straight.{Straight}
-use Rattle.sl_tool.specs.Tree.{written}
+use Rattle.sl_plain.specs.declared.tree.Plain.{Plain}
+use Rattle.sl_tool.specs.Written.{written}
 use Rattle.sl_tool.specs.Stopping.{stop_of}
 use Rattle.sl_tool.specs.Parts.{is_folder_fault, FindsAccepted, WritesProgram, WritesC, EmitsFiles}
 use Rattle.sl_tool.specs.Answer.{c_name, with_file}
@@ -37,7 +37,7 @@ written_told None after files name bytes told h = tt
 written_told (Some old) after files name bytes told h = some_with_file old after name bytes h ∙ ap (λ files. Some (with_file files name bytes)) told
 
 -- the program was read, and then its C was written
-pub program_written : (name : List ℕ) (names : List (List ℕ)) (program : Straight) (before read after : FolderState) (target sent : List ℕ) (result : Result (Unit {0}) Refused) → FindsAccepted names (Some program) before read → after.calls ≡ one_more read.calls → target ≡ c_name name → sent ≡ written program → WriteGives read.files after.files target sent result → GoesOn read.log after.log (WriteCall target sent result ∷ []) → WritesProgram name names program before after result
+pub program_written : (name : List ℕ) (names : List (List ℕ)) (program : Plain) (before read after : FolderState) (target sent : List ℕ) (result : Result (Unit {0}) Refused) → FindsAccepted names (Some program) before read → after.calls ≡ one_more read.calls → target ≡ c_name name → sent ≡ written program → WriteGives read.files after.files target sent result → GoesOn read.log after.log (WriteCall target sent result ∷ []) → WritesProgram name names program before after result
 program_written name names program before read after target sent result finds once named sends gives goes = record {
   read = read;
   finds = finds;

@@ -6,15 +6,15 @@ use Rattle.sl_run.specs.Run.{Ending, Done, Halt, TurnsSpent, StackSpent, Stuck}
 use Rattle.sl_run.specs.Outcome.{Outcome, printed}
 use Rattle.sl_tool.specs.declared.status.Status.{Status}
 use Rattle.sl_tool.specs.declared.status.Status.TheVariants as status
-use Rattle.sl_tool.specs.declared.straight.Straight.{Straight}
+use Rattle.sl_plain.specs.declared.tree.Plain.{Plain}
 use Rattle.sl_text.specs.declared.rule.Rule.{Rule}
 use Rattle.sl_tool.specs.Accepting.{line_at, column_at}
 use Rattle.sl_tool.specs.SourceFiles.{SourceFile, sources_of, first_broken_of, program_of}
-use Rattle.sl_tool.specs.Meaning.{run_of}
-use Rattle.sl_tool.specs.Tree.{written}
+use Rattle.sl_plain.specs.Means.{plain_run}
+use Rattle.sl_tool.specs.Written.{written}
 use Rattle.sl_tool.specs.Words.{Command, Run, Emit, files_of}
 use Rattle.sl_tool.specs.WordsReading.{command_of}
-use Rattle.sl_tool.specs.Texts.{emitted_line, usage_line, broken_line, no_file_line, turns_spent_line, stack_spent_line, exit_value_line, not_built_line}
+use Rattle.sl_tool.specs.Texts.{emitted_line, usage_line, broken_line, no_file_line, file_name, halt_line, turns_spent_line, stack_spent_line, exit_value_line, not_built_line}
 
 -- the exit status of the process
 abbrev pub code_of : Status → ℕ
@@ -64,21 +64,21 @@ abbrev pub exit_line : ℤ → List ℕ
 exit_line (pos value) = if nat_le value 63 then [] else exit_value_line (pos value)
 exit_line (negsuc below) = exit_value_line (negsuc below)
 
--- the line of a run that ended so. No straight program halts or gets stuck: no line is given for these yet
-abbrev pub run_line : Ending → List ℕ
-run_line (Done value) = exit_line value
-run_line TurnsSpent = turns_spent_line
-run_line (Halt kind file line) = []
-run_line StackSpent = stack_spent_line
-run_line (Stuck function) = []
+-- the line of a run of these files that ended so. No program of the tool gets stuck
+abbrev pub run_line : List (List ℕ) → Ending → List ℕ
+run_line names (Done value) = exit_line value
+run_line names (Halt kind file line) = halt_line kind (file_name names file) line
+run_line names TurnsSpent = turns_spent_line
+run_line names StackSpent = stack_spent_line
+run_line names (Stuck function) = []
 
 -- a command that is rejected puts its line on `note`, puts nothing on `out` and takes nothing of the input
 abbrev pub rejected : Status → List ℕ → Contents → List ℕ → Answer
 rejected status line files input = record { status = status; files = files; out = []; note = line; rest = input }
 
--- a run that ended so
-abbrev pub ran : Outcome → Contents → Answer
-ran run files = record { status = run_status run.ending; files = files; out = printed run.events; note = run_line run.ending; rest = run.rest }
+-- a run of these files that ended so
+abbrev pub ran : List (List ℕ) → Outcome → Contents → Answer
+ran names run files = record { status = run_status run.ending; files = files; out = printed run.events; note = run_line names run.ending; rest = run.rest }
 
 -- the name under which C is written
 abbrev pub c_name : List ℕ → List ℕ
@@ -92,15 +92,15 @@ with_file files name bytes = λ other. if bytes_eq other name then Some bytes el
 abbrev pub emitted : List ℕ → List ℕ → Contents → List ℕ → Answer
 emitted name text files input = record { status = status.Exit 0; files = with_file files (c_name name) text; out = emitted_line (c_name name) text; note = []; rest = input }
 
--- what a command does with a straight program
-abbrev pub answer_to_straight : Command → Straight → Contents → List ℕ → Answer
-answer_to_straight (Run names) program files input = ran (run_of program input default_turns) files
-answer_to_straight (Emit name names) program files input = emitted name (written program) files input
+-- what a command does with a plain program
+abbrev pub answer_to_plain : Command → Plain → Contents → List ℕ → Answer
+answer_to_plain (Run names) program files input = ran names (plain_run program input default_turns) files
+answer_to_plain (Emit name names) program files input = emitted name (written program) files input
 
--- a command's answer to what was read: a straight program, or something that isn't built yet
-abbrev pub answer_to_program : Command → Option Straight → Contents → List ℕ → Answer
+-- a command's answer to what was read: a plain program, or something that isn't built yet
+abbrev pub answer_to_program : Command → Option Plain → Contents → List ℕ → Answer
 answer_to_program command None files input = rejected status.NotBuilt not_built_line files input
-answer_to_program command (Some program) files input = answer_to_straight command program files input
+answer_to_program command (Some program) files input = answer_to_plain command program files input
 
 -- a command's answer to sources of which this one is the first that breaks a rule, and that rule, or none
 abbrev pub answer_to_sources : Command → List SourceFile → Option (SourceFile × Rule) → Contents → List ℕ → Answer

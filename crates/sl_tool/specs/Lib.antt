@@ -1,9 +1,6 @@
-pub mod Straight
-pub mod StraightReading
 pub mod Accepting
 pub mod SourceFiles
-pub mod Meaning
-pub mod Tree
+pub mod Written
 pub mod Words
 pub mod WordsReading
 pub mod Texts
@@ -12,4 +9,3 @@ pub mod Outside
 pub mod Promise
 pub mod Stopping
 pub mod Parts
-pub mod Stepping

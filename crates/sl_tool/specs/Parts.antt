@@ -1,24 +1,33 @@
 -- What the private functions of the crate owe.
-use Rattle.std.specs.Prelude.{◌≡◌, ◌⊎◌, ℕ, List, length, map, option_map, Option, Some, None, IfSome, Result, Ok, Err, Bool, true, false}
+use Rattle.std.specs.Prelude.{◌≡◌, ◌≢◌, ◌⊎◌, ℕ, List, [], length, map, option_map, Option, Some, None, IfSome, Result, Ok, Err, Bool, true, false}
 use Rattle.std.specs.Borrow.{Bor}
 use Rattle.sl_outside.specs.declared.folder.Refused.{Refused}
 use Rattle.sl_outside.specs.declared.folder.Refused.TheVariants as refused
 use Rattle.sl_outside.specs.declared.source.Failed.{Failed}
 use Rattle.sl_outside.specs.Folder.{Contents, GoesOn, FolderState}
-use Rattle.sl_outside.specs.Sink.{SinkState, Put, Tried, Prints}
+use Rattle.sl_outside.specs.Sink.{IsPrefix, SinkState, Put, Tried, Prints}
 use Rattle.c_tree.specs.Text.{CText}
 use Rattle.c_write.specs.Lined.{lined}
 use Rattle.sl_tool.specs.declared.stop.Stop.{Stop}
 use Rattle.sl_tool.specs.declared.stop.Stop.TheVariants as stop
 use Rattle.sl_tool.specs.declared.source.SourceFile as found
 use Rattle.sl_tool.specs.declared.status.Status.{Status}
-use Rattle.sl_tool.specs.declared.status.Status.TheVariants.{Broken, NoFile, FolderFault, SinkFault, Memory, NotBuilt}
-use Rattle.sl_tool.specs.declared.straight.Straight.{Straight}
-use Rattle.sl_tool.specs.Straight.{ended}
+use Rattle.sl_tool.specs.declared.status.Status.TheVariants.{Exit, Broken, NoFile, FolderFault, SinkFault, Memory, NotBuilt}
+use Rattle.sl_plain.specs.declared.tree.Plain.{Plain}
 use Rattle.sl_text.specs.declared.rule.Rule.{Rule}
 use Rattle.sl_tool.specs.SourceFiles.{SourceFile, names_of, AreSources, first_broken_of, program_of}
-use Rattle.sl_tool.specs.Tree.{tree_of, written}
-use Rattle.sl_tool.specs.Answer.{c_name}
+use Rattle.sl_run.specs.Run.{Stuck}
+use Rattle.sl_tool.specs.Written.{tree_of, written, IsTreeOf}
+use Rattle.c_machine.specs.declared.ending.End.{End}
+use Rattle.c_machine.specs.declared.ending.End.TheVariants as end
+use Rattle.c_machine.specs.declared.ending.StepFault.{StepFault}
+use Rattle.c_machine.specs.declared.ending.StepFault.TheVariants as fault
+use Rattle.c_machine.specs.Stepped.{ending_of}
+use Rattle.c_tree.specs.declared.tree.CFile.{CFile}
+use Rattle.c_tree.specs.Meaning.{c_run}
+use Rattle.sl_run.specs.Outcome.{Outcome, printed}
+use Rattle.sl_plain.specs.Means.{plain_run}
+use Rattle.sl_tool.specs.Answer.{c_name, default_turns, run_status, run_line}
 use Rattle.sl_tool.specs.Promise.{more_calls, reads_of, AskedUpTo, AskedForSome, AskedAndWrote}
 use Rattle.sl_tool.specs.Texts.{emitted_line, broken_line, no_file_line, folder_fault_line, output_fault_line, no_memory_line, not_built_line}
 
@@ -57,8 +66,8 @@ pub record FindsSources (names : List (List ℕ)) (sources : List SourceFile) (b
   pub told : IfSome before.files (λ held. AreSources held names sources)
   pub log : GoesOn before.log after.log (reads_of sources)
 
--- the sources break no rule, and this is their program, if they are one straight file
-pub record FindsAccepted (names : List (List ℕ)) (program : Option Straight) (before after : FolderState) : Type 0 where
+-- the sources break no rule, and this is their program, if they are one plain file
+pub record FindsAccepted (names : List (List ℕ)) (program : Option Plain) (before after : FolderState) : Type 0 where
   pub sources : List SourceFile
   pub finds : FindsSources names sources before after
   pub accepted : first_broken_of sources ≡ None
@@ -95,32 +104,58 @@ ReadsSources names before after (Ok sources) = FindsSources names (sources_seen 
 ReadsSources names before after (Err stop) = StopsFor names before after stop
 
 -- the program in the sources was read, or it wasn't
-abbrev pub ReadsProgram : List (List ℕ) → FolderState → FolderState → Result Straight Stop → Type 0
+abbrev pub ReadsProgram : List (List ℕ) → FolderState → FolderState → Result Plain Stop → Type 0
 ReadsProgram names before after (Ok program) = FindsAccepted names (Some program) before after
 ReadsProgram names before after (Err stop) = StopsFor names before after stop
 
+-- the run of a program, which asks for no input
+abbrev pub run_of : Plain → Outcome
+run_of program = plain_run program [] default_turns
+
+-- A run was done, and its bytes were put, each by a call of its own, up to the first that failed. Where memory ran out, some of them
+-- were
+abbrev pub Ran : Outcome → SinkState → SinkState → Result End StepFault → Type 0
+Ran run out out' (Ok end) = (ending_of end ≡ run.ending) × Prints (printed run.events) out out' (Ok tt)
+Ran run out out' (Err fault.Sink) = Prints (printed run.events) out out' (Err (record {}))
+Ran run out out' (Err fault.Mem) = (prefix : List ℕ) × IsPrefix prefix (printed run.events) × Prints prefix out out' (Ok tt)
+Ran run out out' (Err fault.Input) = ⊥
+
+-- so the run of a tree was done, with no limit of the stack, on whatever input
+abbrev pub RanTree : CFile → SinkState → SinkState → Result End StepFault → Type 0
+RanTree tree out out' result = (input : List ℕ) → Ran (c_run tree None input default_turns) out out' result
+
+-- and so that of a program
+abbrev pub RanProgram : Plain → SinkState → SinkState → Result End StepFault → Type 0
+RanProgram program out out' result = (input : List ℕ) → Ran (plain_run program input default_turns) out out' result
+
+-- how a run ended isn't an undefined case
+abbrev pub IsDefined : End → Type 0
+IsDefined end = (function : ℕ) → ending_of end ≢ Stuck function
+
 -- a program was run, or wasn't
-abbrev pub RunsFiles : List (List ℕ) → FolderState → FolderState → SinkState → SinkState → Result ℕ Stop → Type 0
-RunsFiles names before after out out' (Ok value) =
-    (program : Straight) × FindsAccepted names (Some program) before after × (value ≡ program.value) × Prints (ended program.texts) out out' (Ok tt)
-RunsFiles names before after out out' (Err stop.Sink) =
-    (program : Straight) × FindsAccepted names (Some program) before after × Prints (ended program.texts) out out' (Err (record {}))
+abbrev pub RunsFiles : List (List ℕ) → FolderState → FolderState → SinkState → SinkState → Result End Stop → Type 0
+RunsFiles names before after out out' (Ok end) = (program : Plain) × FindsAccepted names (Some program) before after × RanProgram program out out' (Ok end) × IsDefined end
+RunsFiles names before after out out' (Err stop.Sink) = (program : Plain) × FindsAccepted names (Some program) before after × RanProgram program out out' (Err fault.Sink)
+RunsFiles names before after out out' (Err stop.Mem) =
+    (AskedForSome names before after × (out' ≡ out))
+    ⊎ ((program : Plain) × FindsAccepted names (Some program) before after × RanProgram program out out' (Err fault.Mem))
 RunsFiles names before after out out' (Err stop) = StopsFor names before after stop × (out' ≡ out)
 
 -- this program was read, and then its C was written, which the folder answered so
-pub record WritesProgram (name : List ℕ) (names : List (List ℕ)) (program : Straight) (before after : FolderState) (result : Result (Unit {0}) Refused) : Type 0 where
+pub record WritesProgram (name : List ℕ) (names : List (List ℕ)) (program : Plain) (before after : FolderState) (result : Result (Unit {0}) Refused) : Type 0 where
   pub read : FolderState
   pub finds : FindsAccepted names (Some program) before read
   pub wrote : AskedAndWrote names (c_name name) (written program) result before after
 
 -- some program was read, and then its C was written
 abbrev pub WritesC : List ℕ → List (List ℕ) → FolderState → FolderState → Result (Unit {0}) Refused → Type 0
-WritesC name names before after result = (program : Straight) × WritesProgram name names program before after result
+WritesC name names before after result = (program : Plain) × WritesProgram name names program before after result
 
 -- the C was written, it is the text of the program's tree, and the line that tells it was put, which the output answered so
 pub record TellsC (name : List ℕ) (names : List (List ℕ)) (before after : FolderState) (out out' : SinkState) (result : Result (Unit {0}) Failed) : Type 0 where
-  pub program : Straight
+  pub program : Plain
   pub writes : WritesProgram name names program before after (Ok tt)
+  pub is_tree : IsTreeOf program (tree_of program)
   pub is_text : CText (written program) (lined (tree_of program))
   pub told : Put (emitted_line (c_name name) (written program)) out out' result
 
@@ -144,3 +179,12 @@ TellsStop stop.NotBuilt before after status = Tried not_built_line before after 
 TellsStop stop.Folder before after status = Tried folder_fault_line before after × (status ≡ FolderFault)
 TellsStop stop.Sink before after status = Tried output_fault_line before after × (status ≡ SinkFault)
 TellsStop stop.Mem before after status = Tried no_memory_line before after × (status ≡ Memory)
+
+-- how a run ended is told, by its status: with an exit value from 0 to 63 nothing is put, and else its line
+abbrev pub TellsAs : Status → List ℕ → SinkState → SinkState → Status → Type 0
+TellsAs (Exit value) line before after status = (status ≡ Exit value) × (after ≡ before)
+TellsAs meant line before after status = MakesAndTells line meant before after status
+
+-- how a run of these files ended is told
+abbrev pub TellsEnd : List (List ℕ) → End → SinkState → SinkState → Status → Type 0
+TellsEnd names end before after status = TellsAs (run_status (ending_of end)) (run_line names (ending_of end)) before after status

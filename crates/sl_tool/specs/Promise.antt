@@ -18,24 +18,24 @@ use Rattle.c_tree.specs.Rules.{KeepsRules}
 use Rattle.c_tree.specs.Meaning.{c_run}
 use Rattle.sl_tool.specs.declared.status.Status.{Status}
 use Rattle.sl_tool.specs.declared.status.Status.TheVariants.{Exit, Usage, Broken, Halted, TurnsSpent, StackSpent, ExitValue, NotC, Stuck, NoFile, FolderFault, InputFault, SinkFault, Memory, NotBuilt}
-use Rattle.sl_tool.specs.declared.straight.Straight.{Straight}
+use Rattle.sl_plain.specs.declared.tree.Plain.{Plain}
 use Rattle.sl_text.specs.declared.rule.Rule.{Rule}
 use Rattle.sl_tool.specs.Accepting.{line_at, column_at}
-use Rattle.sl_tool.specs.SourceFiles.{SourceFile, names_of, AreSources, IsThere, IsFirstMissing, AreAccepted, IsFirstBrokenOf, AreStraight}
-use Rattle.sl_tool.specs.Meaning.{run_of}
-use Rattle.sl_tool.specs.Tree.{written}
+use Rattle.sl_tool.specs.SourceFiles.{SourceFile, names_of, AreSources, IsThere, IsFirstMissing, AreAccepted, IsFirstBrokenOf, ArePlain}
+use Rattle.sl_plain.specs.Means.{plain_run}
+use Rattle.sl_tool.specs.Written.{written}
 use Rattle.sl_tool.specs.Words.{Command, Run, Emit, files_of, Reads, HasNoReading, BeginsNoCommand}
 use Rattle.sl_tool.specs.Texts.{broken_line, usage_line, no_file_line, folder_fault_line, output_fault_line, no_memory_line, not_built_line}
-use Rattle.sl_tool.specs.Answer.{Answer, answer_of, default_turns, run_status, c_name, with_file}
+use Rattle.sl_tool.specs.Answer.{Answer, answer_of, default_turns, run_status, run_line, c_name, with_file}
 use Rattle.sl_tool.specs.Outside.{Outside, IsTold, FolderRose, InputRose, OutRose, NoteRose, NothingFailed}
 
 -- it is this status, or `Memory`, which may come at any time
 abbrev pub IsUnlessMemory : Status → Status → Type 0
 IsUnlessMemory status meant = (status ≡ meant) ⊎ (status ≡ Memory)
 
--- the files have under these names one straight file, with this program, that breaks no rule
-abbrev pub HoldsStraight : Contents → List (List ℕ) → Straight → Type 0
-HoldsStraight files names program = (sources : List SourceFile) × AreSources files names sources × AreAccepted sources × AreStraight sources program
+-- the files have under these names one plain file, with this program, that breaks no rule
+abbrev pub HoldsPlain : Contents → List (List ℕ) → Plain → Type 0
+HoldsPlain files names program = (sources : List SourceFile) × AreSources files names sources × AreAccepted sources × ArePlain sources program
 
 -- Complete ------------------------------------------------------------------------------------------------------------
 
@@ -51,11 +51,14 @@ pub record Did (answer : Answer) (before after : Outside) (status : Status) : Ty
 abbrev pub Complete : List (List ℕ) → Contents → List ℕ → Outside → Outside → Status → Type 0
 Complete words files input before after status = NothingFailed before after → Did (answer_of words files input) before after status ⊎ (status ≡ Memory)
 
--- 0 to 63, 64, 65 and 72: the statuses whose line, if they have one, was put whole
+-- 0 to 63, 64 to 67, 69 and 72: the statuses whose line, if they have one, was put whole
 abbrev pub IsFinal : Status → Type 0
 IsFinal (Exit value) = Unit {0}
 IsFinal Usage = Unit {0}
 IsFinal Broken = Unit {0}
+IsFinal Halted = Unit {0}
+IsFinal TurnsSpent = Unit {0}
+IsFinal ExitValue = Unit {0}
 IsFinal NoFile = Unit {0}
 IsFinal other = ⊥
 
@@ -71,29 +74,29 @@ pub record RanAs (run : Outcome) (before after : Outside) (status : Status) : Ty
   pub printed_bytes : IfSome before.out.held (λ held. after.out.held ≡ Some (held ++ printed run.events))
   pub rest : IfSome before.input.left (λ _. after.input.left ≡ Some run.rest)
 
--- where nothing failed, `run` of one straight file prints, reads and ends as the program does, or its status is `Memory`
+-- where nothing failed, `run` of one plain file prints, reads and ends as the program does, or its status is `Memory`
 abbrev pub Runs : List (List ℕ) → Contents → List ℕ → Outside → Outside → Status → Type 0
 Runs words files input before after status =
-    (names : List (List ℕ)) (program : Straight) → Reads words (Run names) → HoldsStraight files names program →
-    NothingFailed before after → RanAs (run_of program input default_turns) before after status ⊎ (status ≡ Memory)
+    (names : List (List ℕ)) (program : Plain) → Reads words (Run names) → HoldsPlain files names program →
+    NothingFailed before after → RanAs (plain_run program input default_turns) before after status ⊎ (status ≡ Memory)
 
 -- Bytes written -------------------------------------------------------------------------------------------------------
 
 -- The text is C that means the program: it is the text of a tree that keeps the rules of the subset, and on every input, in every
 -- number of turns and with no limit of live bytes, what that tree prints, where it asks for input, what it leaves of the input,
 -- how it ends and the turns it leaves are those of the program. With no turn both do nothing
-pub record IsCOf (program : Straight) (text : List ℕ) : Type 0 where
+pub record IsCOf (program : Plain) (text : List ℕ) : Type 0 where
   pub tree : CFile
   pub text_of : CText text tree
   pub rules : KeepsRules tree
-  pub means : (input : List ℕ) (turns : ℕ) → c_run tree None input turns ≡ run_of program input turns
+  pub means : (input : List ℕ) (turns : ℕ) → c_run tree None input turns ≡ plain_run program input turns
   pub no_turn : (input : List ℕ) → c_run tree None input 0 ≡ record { ending = ending.TurnsSpent; events = []; rest = input; left = 0 }
 
--- the C of a straight file was written under a name: where the folder tells its files, that name has just these bytes, and all
+-- the C of a plain file was written under a name: where the folder tells its files, that name has just these bytes, and all
 -- others have what they had
 pub record WroteC (name : List ℕ) (names : List (List ℕ)) (files : Contents) (before after : Outside) : Type 0 where
-  pub program : Straight
-  pub source : HoldsStraight files names program
+  pub program : Plain
+  pub source : HoldsPlain files names program
   pub folder : IfSome before.folder.files (λ _. after.folder.files ≡ Some (with_file files (c_name name) (written program)))
   pub is_c : IsCOf program (written program)
 
@@ -122,24 +125,24 @@ AsksFor words files sources = (command : Command) × Reads words command × AreS
 abbrev pub AsksForBroken : List (List ℕ) → Contents → SourceFile → Rule → ℕ → Type 0
 AsksForBroken words files source rule place = (sources : List SourceFile) × AsksFor words files sources × IsFirstBrokenOf sources source rule place
 
--- the words ask for sources that break no rule and aren't one straight file
+-- the words ask for sources that break no rule and aren't one plain file
 abbrev pub AsksForUnbuilt : List (List ℕ) → Contents → Type 0
 AsksForUnbuilt words files =
-    (sources : List SourceFile) × AsksFor words files sources × AreAccepted sources × ((program : Straight) → ¬ AreStraight sources program)
+    (sources : List SourceFile) × AsksFor words files sources × AreAccepted sources × ((program : Plain) → ¬ ArePlain sources program)
 
--- what a command ends with on a straight program: a run with the program's exit value, and `emit` with 0
-abbrev pub GivesExit : Command → Straight → List ℕ → ℕ → Type 0
-GivesExit (Run names) program input value = (run_of program input default_turns).ending ≡ Done (pos value)
-GivesExit (Emit name names) program input value = value ≡ 0
+-- the status with which a command ends on a plain program: that of the program's run, and 0 for `emit`
+abbrev pub ends_with : Command → Plain → List ℕ → Status
+ends_with (Run names) program input = run_status (plain_run program input default_turns).ending
+ends_with (Emit name names) program input = Exit 0
 
 -- the words ask for something that ends so
-abbrev pub EndsWith : List (List ℕ) → Contents → List ℕ → ℕ → Type 0
-EndsWith words files input value =
-    (command : Command) × (program : Straight) × Reads words command × HoldsStraight files (files_of command) program × GivesExit command program input value
+abbrev pub EndsWith : List (List ℕ) → Contents → List ℕ → Status → Type 0
+EndsWith words files input status =
+    (command : Command) × (program : Plain) × Reads words command × HoldsPlain files (files_of command) program × (ends_with command program input ≡ status)
 
 -- each status comes only with its cause; want of memory needs none
 abbrev pub Cause : List (List ℕ) → Contents → List ℕ → Outside → Outside → Status → Type 0
-Cause words files input before after (Exit value) = (value ≤ 63) × EndsWith words files input value
+Cause words files input before after (Exit value) = (value ≤ 63) × EndsWith words files input (Exit value)
 Cause words files input before after Usage = HasNoReading words
 Cause words files input before after NoFile = (name : List ℕ) × AsksForNoFile words files name
 Cause words files input before after FolderFault = FolderRose before after
@@ -147,11 +150,11 @@ Cause words files input before after SinkFault = OutRose before after ⊎ NoteRo
 Cause words files input before after Memory = Unit {0}
 Cause words files input before after NotBuilt = AsksForUnbuilt words files
 Cause words files input before after Broken = (source : SourceFile) × (rule : Rule) × (place : ℕ) × AsksForBroken words files source rule place
+Cause words files input before after Halted = EndsWith words files input Halted
+Cause words files input before after TurnsSpent = EndsWith words files input TurnsSpent
+Cause words files input before after ExitValue = EndsWith words files input ExitValue
 -- the other statuses don't come yet
-Cause words files input before after Halted = ⊥
-Cause words files input before after TurnsSpent = ⊥
 Cause words files input before after StackSpent = ⊥
-Cause words files input before after ExitValue = ⊥
 Cause words files input before after NotC = ⊥
 Cause words files input before after Stuck = ⊥
 Cause words files input before after InputFault = ⊥
@@ -164,7 +167,8 @@ pub record Comes (words : List (List ℕ)) (files : Contents) (input : List ℕ)
   pub no_file : (name : List ℕ) → AsksForNoFile words files name → ¬ FolderRose before after → ¬ NoteRose before after → IsUnlessMemory status NoFile
   pub broken : (source : SourceFile) (rule : Rule) (place : ℕ) → AsksForBroken words files source rule place → ¬ FolderRose before after → ¬ NoteRose before after → IsUnlessMemory status Broken
   pub not_built : AsksForUnbuilt words files → ¬ FolderRose before after → IsUnlessMemory status NotBuilt
-  pub exit : (value : ℕ) → EndsWith words files input value → ¬ FolderRose before after → ¬ InputRose before after → ¬ OutRose before after → IsUnlessMemory status (Exit value)
+  pub ends : (meant : Status) → EndsWith words files input meant → ¬ FolderRose before after → ¬ InputRose before after → ¬ OutRose before after → ¬ NoteRose before after → IsUnlessMemory status meant
+  pub exit : (value : ℕ) → EndsWith words files input (Exit value) → ¬ FolderRose before after → ¬ InputRose before after → ¬ OutRose before after → IsUnlessMemory status (Exit value)
 
 -- Faults --------------------------------------------------------------------------------------------------------------
 
@@ -260,10 +264,14 @@ Stopped names files before after SinkFault =
 Stopped names files before after Memory = (after.folder ≡ before.folder) ⊎ AskedForSome names before.folder after.folder
 Stopped names files before after other = ⊥
 
--- how a run put what it printed on `out`, by the status: byte by byte, each by a call of its own, up to the first that failed
+-- How a run put what it printed on `out`, by the status: byte by byte, each by a call of its own, up to the first that failed. Where
+-- the line of a run was refused by `note`, all was put before
 abbrev pub Printed : Answer → Outside → Outside → Status → Type 0
 Printed answer before after (Exit value) = Prints answer.out before.out after.out (Ok tt)
-Printed answer before after SinkFault = Prints answer.out before.out after.out (Err (record {}))
+Printed answer before after Halted = Prints answer.out before.out after.out (Ok tt)
+Printed answer before after TurnsSpent = Prints answer.out before.out after.out (Ok tt)
+Printed answer before after ExitValue = Prints answer.out before.out after.out (Ok tt)
+Printed answer before after SinkFault = Prints answer.out before.out after.out (Err (record {})) ⊎ (NoteRose before after × Prints answer.out before.out after.out (Ok tt))
 Printed answer before after Memory = (prefix : List ℕ) × IsPrefix prefix answer.out × Prints prefix before.out after.out (Ok tt)
 Printed answer before after other = ⊥
 
@@ -276,7 +284,7 @@ RunDid names files answer before after status =
 -- `emit` asked for all its files and then wrote the C of their program, which the folder answered so
 abbrev pub Wrote : List ℕ → List (List ℕ) → Contents → Result (Unit {0}) Refused → Outside → Outside → Type 0
 Wrote name names files result before after =
-    (program : Straight) × HoldsStraight files names program × AskedAndWrote names (c_name name) (written program) result before.folder after.folder
+    (program : Plain) × HoldsPlain files names program × AskedAndWrote names (c_name name) (written program) result before.folder after.folder
 
 -- How `emit` wrote the C, by one call, and then put its line on `out`, by one call, by the status. Where the write was refused,
 -- nothing was put, and the folder may have left anything under that name for a fault, and has changed nothing for want of memory
@@ -298,42 +306,54 @@ pub record Acts (words : List (List ℕ)) (files : Contents) (answer : Answer) (
   pub run : (names : List (List ℕ)) → Reads words (Run names) → RunDid names files answer before after status
   pub emit : (name : List ℕ) (names : List (List ℕ)) → Reads words (Emit name names) → EmitDid name names files answer before after status
 
--- the lines whose refusal changes the status to `SinkFault`: those of 64, 65 and 72
-abbrev pub IsLineOf : List (List ℕ) → Contents → Status → List ℕ → Type 0
-IsLineOf words files Usage line = HasNoReading words × (line ≡ usage_line)
-IsLineOf words files Broken line =
+-- the line of a run that ended so, with this status
+abbrev pub IsRunLine : List (List ℕ) → Contents → List ℕ → Status → List ℕ → Type 0
+IsRunLine words files input status line =
+    (names : List (List ℕ)) × (program : Plain) × Reads words (Run names) × HoldsPlain files names program
+    × (run_status (plain_run program input default_turns).ending ≡ status) × (line ≡ run_line names (plain_run program input default_turns).ending)
+
+-- the lines whose refusal changes the status to `SinkFault`: those of 64 to 67, 69 and 72
+abbrev pub IsLineOf : List (List ℕ) → Contents → List ℕ → Status → List ℕ → Type 0
+IsLineOf words files input Usage line = HasNoReading words × (line ≡ usage_line)
+IsLineOf words files input Broken line =
     (source : SourceFile) × (rule : Rule) × (place : ℕ) × AsksForBroken words files source rule place
     × (line ≡ broken_line source.name (line_at source.bytes place) (column_at source.bytes place) rule)
-IsLineOf words files NoFile line = (name : List ℕ) × AsksForNoFile words files name × (line ≡ no_file_line name)
-IsLineOf words files other line = ⊥
+IsLineOf words files input NoFile line = (name : List ℕ) × AsksForNoFile words files name × (line ≡ no_file_line name)
+IsLineOf words files input Halted line = IsRunLine words files input Halted line
+IsLineOf words files input TurnsSpent line = IsRunLine words files input TurnsSpent line
+IsLineOf words files input ExitValue line = IsRunLine words files input ExitValue line
+IsLineOf words files input other line = ⊥
 
 -- such a line was put and refused, and then the line of the fault was tried
-abbrev pub RefusesLine : List (List ℕ) → Contents → SinkState → SinkState → Type 0
-RefusesLine words files before after =
+abbrev pub RefusesLine : List (List ℕ) → Contents → List ℕ → SinkState → SinkState → Type 0
+RefusesLine words files input before after =
     (first : Status) × (line : List ℕ) × (between : SinkState)
-    × IsLineOf words files first line × Put line before between (Err (record {})) × Tried output_fault_line between after
+    × IsLineOf words files input first line × Put line before between (Err (record {})) × Tried output_fault_line between after
 
--- What `note` got, by the status: each line by one call. A line of 64, 65 or 72 was put whole; the line of a fault, of want of memory
+-- What `note` got, by the status: each line by one call. A line of 64 to 67, 69 or 72 was put whole; the line of a fault, of want of memory
 -- or of a source that isn't built was tried, whatever came of it
-abbrev pub Noted : List (List ℕ) → Contents → Outside → Outside → Status → Type 0
-Noted words files before after (Exit value) = after.note ≡ before.note
-Noted words files before after Usage = Put usage_line before.note after.note (Ok tt)
-Noted words files before after Broken = (line : List ℕ) × IsLineOf words files Broken line × Put line before.note after.note (Ok tt)
-Noted words files before after NoFile = (line : List ℕ) × IsLineOf words files NoFile line × Put line before.note after.note (Ok tt)
-Noted words files before after FolderFault = Tried folder_fault_line before.note after.note
-Noted words files before after SinkFault = (OutRose before after × Tried output_fault_line before.note after.note) ⊎ RefusesLine words files before.note after.note
-Noted words files before after Memory = Tried no_memory_line before.note after.note
-Noted words files before after NotBuilt = Tried not_built_line before.note after.note
-Noted words files before after other = ⊥
+abbrev pub Noted : List (List ℕ) → Contents → List ℕ → Outside → Outside → Status → Type 0
+Noted words files input before after (Exit value) = after.note ≡ before.note
+Noted words files input before after Halted = (line : List ℕ) × IsLineOf words files input Halted line × Put line before.note after.note (Ok tt)
+Noted words files input before after TurnsSpent = (line : List ℕ) × IsLineOf words files input TurnsSpent line × Put line before.note after.note (Ok tt)
+Noted words files input before after ExitValue = (line : List ℕ) × IsLineOf words files input ExitValue line × Put line before.note after.note (Ok tt)
+Noted words files input before after Usage = Put usage_line before.note after.note (Ok tt)
+Noted words files input before after Broken = (line : List ℕ) × IsLineOf words files input Broken line × Put line before.note after.note (Ok tt)
+Noted words files input before after NoFile = (line : List ℕ) × IsLineOf words files input NoFile line × Put line before.note after.note (Ok tt)
+Noted words files input before after FolderFault = Tried folder_fault_line before.note after.note
+Noted words files input before after SinkFault = (OutRose before after × Tried output_fault_line before.note after.note) ⊎ RefusesLine words files input before.note after.note
+Noted words files input before after Memory = Tried no_memory_line before.note after.note
+Noted words files input before after NotBuilt = Tried not_built_line before.note after.note
+Noted words files input before after other = ⊥
 
 -- All of it ------------------------------------------------------------------------------------------------------------
 
 -- the promise over these files and this input
 pub record Keeps (words : List (List ℕ)) (files : Contents) (input : List ℕ) (before after : Outside) (status : Status) : Type 0 where
-  -- where nothing failed, and with 0 to 63, 64, 65 and 72 in any case, the call did what `answer_of` says, or its status is `Memory`
+  -- where nothing failed, and with 0 to 63, 64 to 67, 69 and 72 in any case, the call did what `answer_of` says, or its status is `Memory`
   pub complete : Complete words files input before after status
   pub finished : Finished words files input before after status
-  -- where nothing failed, a straight file's run is that of its program, or the status is `Memory`
+  -- where nothing failed, a plain file's run is that of its program, or the status is `Memory`
   pub run : Runs words files input before after status
   -- where `emit` ended with 0, or by a fault of `out`, the folder has C that means the program
   pub bytes_written : Emits words files before after status
@@ -346,8 +366,8 @@ pub record Keeps (words : List (List ℕ)) (files : Contents) (input : List ℕ)
   -- what stands after the call, whatever its status, and by which calls it came there
   pub stands : GoesNoFurther (answer_of words files input) input before after
   pub acts : Acts words files (answer_of words files input) before after status
-  pub noted : Noted words files before after status
-  -- no straight program asks for input, and `emit` runs nothing
+  pub noted : Noted words files input before after status
+  -- no plain program asks for input yet, and `emit` runs nothing
   pub untouched : after.input ≡ before.input
 
 -- the contract of `slang`

@@ -3,9 +3,9 @@ use Rattle.std.specs.Prelude.{◌≡◌, ℕ, List, [], ◌∷◌, ◌++◌, map
 use Rattle.std.specs.List.{All}
 use Rattle.sl_outside.specs.Folder.{Contents}
 use Rattle.sl_text.specs.declared.rule.Rule.{Rule}
-use Rattle.sl_tool.specs.declared.straight.Straight.{Straight}
-use Rattle.sl_tool.specs.Straight.{IsStraight}
-use Rattle.sl_tool.specs.StraightReading.{straight_of}
+use Rattle.sl_plain.specs.declared.tree.Plain.{Plain}
+use Rattle.sl_plain.specs.Plain.{IsPlain}
+use Rattle.sl_plain.specs.PlainReading.{plain_of}
 use Rattle.sl_tool.specs.Accepting.{IsAccepted, IsFirstBroken, first_broken}
 
 -- a file that was named, and its bytes
@@ -42,9 +42,9 @@ IsFirstBrokenOf sources source rule place =
     (earlier : List SourceFile) × (later : List SourceFile) × (sources ≡ earlier ++ source ∷ later)
     × AreAccepted earlier × IsFirstBroken source.bytes rule place
 
--- the sources are one straight file with this program
-abbrev pub AreStraight : List SourceFile → Straight → Type 0
-AreStraight sources program = (source : SourceFile) × (sources ≡ source ∷ []) × IsStraight source.bytes program
+-- the sources are one plain file with this program
+abbrev pub ArePlain : List SourceFile → Plain → Type 0
+ArePlain sources program = (source : SourceFile) × (sources ≡ source ∷ []) × IsPlain source.bytes program
 
 -- How it is found -----------------------------------------------------------------------------------------------------
 
@@ -69,8 +69,8 @@ abbrev pub first_broken_of : List SourceFile → Option (SourceFile × Rule)
 first_broken_of [] = None
 first_broken_of (source ∷ sources) = broken_or source (first_broken source.bytes) (first_broken_of sources)
 
--- the program of the one source, if it is straight
-abbrev pub program_of : List SourceFile → Option Straight
+-- the program of the one source, if it is plain
+abbrev pub program_of : List SourceFile → Option Plain
 program_of [] = None
-program_of (source ∷ []) = straight_of source.bytes
+program_of (source ∷ []) = plain_of source.bytes
 program_of (source ∷ other ∷ sources) = None

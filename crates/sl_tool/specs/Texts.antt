@@ -1,5 +1,5 @@
 -- The lines of the tool, each ended by a line feed: that of `emit` on `out`, and those that go with the statuses on `note`.
-use Rattle.std.specs.Prelude.{ℕ, ℤ, List, ◌++◌, length, codes}
+use Rattle.std.specs.Prelude.{ℕ, ℤ, List, [], ◌++◌, length, unwrap_or, slice_get, ◌==◌, if◌then◌else◌, codes}
 use Rattle.std.specs.Fmt.{decimal, signed_decimal}
 use Rattle.sl_text.specs.declared.rule.Rule.{Rule}
 use Rattle.sl_text.specs.Rules.{rule_text}
@@ -15,6 +15,23 @@ usage_line = codes "usage: check, emit, run, step, stack or sample\n"
 -- 65: a source breaks a rule, at this line and column
 abbrev pub broken_line : List ℕ → ℕ → ℕ → Rule → List ℕ
 broken_line file line column rule = file ++ (codes ":" ++ (decimal line ++ (codes ":" ++ (decimal column ++ (codes ": " ++ (rule_text rule ++ codes "\n"))))))
+
+-- the kind of a halt, by its number
+abbrev pub halt_kind : ℕ → List ℕ
+halt_kind kind =
+    if kind == 1 then codes "Assert"
+    else if kind == 2 then codes "Halt"
+    else if kind == 3 then codes "Range"
+    else if kind == 4 then codes "Zero"
+    else []
+
+-- 66: the run halted, at this line of this file
+abbrev pub halt_line : ℕ → List ℕ → ℕ → List ℕ
+halt_line kind file line = codes "halt " ++ (halt_kind kind ++ (codes " " ++ (file ++ (codes ":" ++ (decimal line ++ codes "\n")))))
+
+-- the name of the file with this number. No program halts in a file that it doesn't have
+abbrev pub file_name : List (List ℕ) → ℕ → List ℕ
+file_name names number = unwrap_or (slice_get names number) []
 
 -- 67: the run needs more turns than it has
 abbrev pub turns_spent_line : List ℕ

@@ -1,22 +1,23 @@
-// `emit -o NAME FILE..`: the C of a straight file is written under NAME.c, and a line tells it.
+// `emit -o NAME FILE..`: the C of a plain file is written under NAME.c, and a line tells it.
 ghost use Rattle.std.specs.Prelude.{◌≡◌, IfOk, string_bytes};
 ghost use Rattle.sl_outside.specs.Counts.{HasCause};
 ghost use Rattle.sl_outside.specs.Folder.{folder_state};
 ghost use Rattle.sl_outside.specs.Sink.{sink_state};
 ghost use Rattle.c_tree.specs.Text.{CText};
 ghost use Rattle.c_write.specs.Lined.{lined};
-ghost use Rattle.sl_tool.specs.Straight.{IsProgram};
-ghost use Rattle.sl_tool.specs.Tree.{tree_of, written};
+ghost use Rattle.sl_plain.specs.Plain.{IsProgram};
+ghost use Rattle.sl_plain.specs.Reach.{IsInReach};
+ghost use Rattle.sl_tool.specs.Written.{tree_of, written, IsTreeOf};
 ghost use Rattle.sl_tool.specs.Texts.{emitted_line};
 ghost use Rattle.sl_tool.specs.WordsReading.{names_seen};
 ghost use Rattle.sl_tool.specs.Parts.{EmitsFiles, is_folder_fault};
 
-use crate::building::build_tree;
 use crate::source::read_program;
 use crate::stop::Stop;
-use crate::straight::Straight;
+use crate::translating::translate;
 use c_write::write;
 use sl_outside::{Folder, Sink};
+use sl_plain::Plain;
 use sl_text::{Mem, Row};
 use std::alloc::Global;
 
@@ -56,11 +57,13 @@ fn line_of(alloc: Global, target: &str, text: &[u8]) -> Result<String, Mem>
 }
 
 /// The C text of a program.
-fn c_text(alloc: Global, program: &Straight) -> Result<Row<u8>, Mem>
-    requires { IsProgram program.now }
+fn c_text(alloc: Global, program: &Plain) -> Result<Row<u8>, Mem>
+    requires program { IsProgram program.now }
+    requires reach { IsInReach program.now }
     ensures text { IfOk result (λ text. text ≡ written program.now) }
+    ensures means { IfOk result (λ text. IsTreeOf program.now (tree_of program.now)) }
     ensures reads { IfOk result (λ text. CText (written program.now) (lined (tree_of program.now))) }
 {
-    let tree = build_tree(alloc, program)?;
+    let tree = translate(alloc, program)?;
     write(alloc, &tree)
 }

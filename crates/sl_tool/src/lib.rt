@@ -9,15 +9,13 @@ ghost use Rattle.sl_tool.specs.Outside.{outside};
 ghost use Rattle.sl_tool.specs.Promise.{Promise};
 
 mod accepting;
-mod building;
 mod emitting;
 mod running;
 mod source;
 mod status;
-mod stepping;
 mod stop;
-mod straight;
 mod telling;
+mod translating;
 mod words;
 
 use emitting::emit_files;
@@ -25,13 +23,13 @@ use running::run_files;
 use sl_outside::{Folder, Sink, Source};
 pub use status::Status;
 use std::alloc::Global;
-use telling::{tell_no_memory, tell_stop, tell_usage};
+use telling::{tell_end, tell_no_memory, tell_stop, tell_usage};
 use words::{Command, read_words};
 
 /// Does what the words after the program's name ask for. `run FILE..` reads the files from `folder`, and puts on `out` what their
 /// program prints, a byte at a time. `emit -o NAME FILE..` reads the files, writes the C of their program under `NAME.c` by one
 /// call, and puts the line `NAME.c B bytes` on `out`, where B is the length of the C. Where the status isn't 0 to 63, its line is put on
-/// `note`; docs/command-line.md has the statuses, their causes and their lines. `input` isn't read.
+/// `note`; docs/command-line.md has the statuses, their causes and their lines. No program reads `input` yet.
 ///
 /// The one clause, `Promise`, has a field for each promise.
 pub fn slang<F: Folder, S: Source, K: Sink, N: Sink>(
@@ -61,10 +59,13 @@ pub fn slang<F: Folder, S: Source, K: Sink, N: Sink>(
         Err(_) => return tell_no_memory(note),
     };
     match command {
-        Command::Run { files } => match run_files(alloc, files.as_slice(), folder, out) {
-            Ok(value) => Status::Exit(value),
-            Err(stop) => tell_stop(alloc, stop, note),
-        },
+        Command::Run { files } => {
+            let names = files.as_slice();
+            match run_files(alloc, names, folder, input, out) {
+                Ok(end) => tell_end(alloc, names, end, note),
+                Err(stop) => tell_stop(alloc, stop, note),
+            }
+        }
         Command::Emit { name, files } => {
             match emit_files(alloc, name, files.as_slice(), folder, out) {
                 Ok(()) => Status::Exit(0),

@@ -1,27 +1,34 @@
-// `run FILE..`: a straight file is read, and the tree of its C is stepped.
+// `run FILE..`: a plain file is read, and the tree of its C is stepped.
 ghost use Rattle.sl_outside.specs.Counts.{HasCause};
 ghost use Rattle.sl_outside.specs.Folder.{folder_state};
 ghost use Rattle.sl_outside.specs.Sink.{sink_state};
+ghost use Rattle.sl_outside.specs.Source.{source_state};
+ghost use Rattle.std.specs.Prelude.{◌≡◌};
+ghost use Rattle.c_tree.specs.Rules.{KeepsRules};
 ghost use Rattle.sl_tool.specs.WordsReading.{names_seen};
-ghost use Rattle.sl_tool.specs.Parts.{RunsFiles, is_folder_fault};
+ghost use Rattle.sl_tool.specs.Parts.{RunsFiles, RanTree, is_folder_fault};
 
-use crate::building::build_tree;
 use crate::source::read_program;
-use crate::stepping::{Unfinished, run_tree};
 use crate::stop::Stop;
-use sl_outside::{Folder, Sink};
+use crate::translating::translate;
+use c_machine::{End, Machine, StepFault};
+use c_rules::Checked;
+use c_tree::{CFault, CFile};
+use sl_outside::{Folder, Sink, Source};
+use sl_text::Mem;
 use std::alloc::Global;
 
 /// The turns that a run has where no option says it.
 const DEFAULT_TURNS: u64 = 1_000_000_000;
 
-/// Reads the program in the files, steps the tree of its C, and gives the program's value.
-pub fn run_files<'a, F: Folder, K: Sink>(
+/// Reads the program in the files, steps the tree of its C, and says how the run ended.
+pub fn run_files<'a, F: Folder, S: Source, K: Sink>(
     alloc: Global,
     names: &[&'a str],
     folder: &mut F,
+    input: &mut S,
     out: &mut K,
-) -> Result<u8, Stop<'a>>
+) -> Result<End, Stop<'a>>
     ensures ran { RunsFiles (names_seen names.now)
         (folder_state (F.files folder.old) (F.faults folder.old) (F.calls folder.old) (F.log folder.old))
         (folder_state (F.files folder.new) (F.faults folder.new) (F.calls folder.new) (F.log folder.new))
@@ -29,13 +36,39 @@ pub fn run_files<'a, F: Folder, K: Sink>(
         (sink_state (K.held out.new) (K.faults out.new) (K.calls out.new))
         result }
     ensures cause { HasCause (is_folder_fault result) (F.faults folder.old) (F.faults folder.new) }
+    ensures untouched { source_state (S.left input.new) (S.faults input.new) (S.calls input.new) ≡ source_state (S.left input.old) (S.faults input.old) (S.calls input.old) }
 {
     let program = read_program(alloc, names, folder)?;
-    let tree = build_tree(alloc, &program)?;
-    match run_tree(&tree, DEFAULT_TURNS, out) {
-        Ok(value) => Ok(value as u8),
-        Err(Unfinished::Sink) => Err(Stop::Sink),
-        Err(Unfinished::TurnsSpent) => unreachable!(),
-        Err(Unfinished::Stuck) => unreachable!(),
+    let tree = translate(alloc, &program)?;
+    match run_tree(alloc, tree, input, out) {
+        Ok(end) => Ok(end),
+        Err(StepFault::Sink) => Err(Stop::Sink),
+        Err(StepFault::Mem) => Err(Stop::Mem),
+        Err(StepFault::Input) => unreachable!(),
+    }
+}
+
+/// Steps a tree that keeps the rules to the end of its run.
+fn run_tree<S: Source, K: Sink>(
+    alloc: Global,
+    tree: CFile,
+    input: &mut S,
+    out: &mut K,
+) -> Result<End, StepFault>
+    requires { KeepsRules tree }
+    ensures ran { RanTree tree
+        (sink_state (K.held out.old) (K.faults out.old) (K.calls out.old))
+        (sink_state (K.held out.new) (K.faults out.new) (K.calls out.new))
+        result }
+    ensures untouched { source_state (S.left input.new) (S.faults input.new) (S.calls input.new) ≡ source_state (S.left input.old) (S.faults input.old) (S.calls input.old) }
+{
+    let checked = match Checked::check(alloc, tree) {
+        Ok(checked) => checked,
+        Err(CFault::Mem) => return Err(StepFault::Mem),
+        Err(CFault::NotC(_)) => unreachable!(),
+    };
+    match Machine::open(alloc, checked, DEFAULT_TURNS) {
+        Ok(mut machine) => machine.run(alloc, input, out),
+        Err(Mem) => Err(StepFault::Mem),
     }
 }

@@ -8,8 +8,8 @@ ghost use Rattle.sl_tool.specs.Parts.{broken_name, broken_seen, ReadsProgram, Re
 
 use crate::accepting::first_broken;
 use crate::stop::Stop;
-use crate::straight::{Straight, read_straight};
 use sl_outside::Folder;
+use sl_plain::{Plain, read_plain};
 use sl_text::{Mem, Row, Rule};
 use std::alloc::Global;
 
@@ -25,7 +25,7 @@ pub fn read_program<'a, F: Folder>(
     alloc: Global,
     names: &[&'a str],
     folder: &mut F,
-) -> Result<Straight, Stop<'a>>
+) -> Result<Plain, Stop<'a>>
     ensures read { ReadsProgram (names_seen names.now)
         (folder_state (F.files folder.old) (F.faults folder.old) (F.calls folder.old) (F.log folder.old))
         (folder_state (F.files folder.new) (F.faults folder.new) (F.calls folder.new) (F.log folder.new))
@@ -76,12 +76,12 @@ fn first_broken_of<'a>(sources: &[SourceFile<'a>]) -> Option<(&'a str, Rule)>
     None
 }
 
-/// The program of the one source, if it is straight.
-fn program_of(alloc: Global, sources: &[SourceFile<'_>]) -> Result<Option<Straight>, Mem>
+/// The program of the one source, if it is plain.
+fn program_of(alloc: Global, sources: &[SourceFile<'_>]) -> Result<Option<Plain>, Mem>
     ensures { IfOk result (λ program. program ≡ program_of (sources_seen sources.now)) }
 {
     match sources {
-        [source] => read_straight(alloc, source.bytes.as_slice()),
+        [source] => read_plain(alloc, source.bytes.as_slice()),
         _ => Ok(None),
     }
 }

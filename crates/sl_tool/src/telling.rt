@@ -1,17 +1,21 @@
 // The line of a status on `note`.
 ghost use Rattle.std.specs.Prelude.{◌≡◌};
-ghost use Rattle.sl_tool.specs.Texts.{broken_line, no_file_line, no_memory_line, usage_line};
+ghost use Rattle.sl_tool.specs.Texts.{broken_line, exit_value_line, file_name, halt_kind, halt_line, no_file_line, no_memory_line, usage_line};
+ghost use Rattle.sl_tool.specs.WordsReading.{names_seen};
 ghost use Rattle.sl_tool.specs.declared.status.Status.TheVariants as status;
 ghost use Rattle.sl_outside.specs.Sink.{Tried, sink_state};
-ghost use Rattle.sl_tool.specs.Parts.{MakesAndTells, Tells, TellsStop};
+ghost use Rattle.sl_tool.specs.Parts.{IsDefined, MakesAndTells, Tells, TellsEnd, TellsStop};
 
 use crate::Status;
 use crate::stop::Stop;
+use c_machine::End;
 use sl_outside::Sink;
 use sl_text::Rule;
 use std::alloc::Global;
 
 const USAGE: &[u8] = b"usage: check, emit, run, step, stack or sample\n";
+
+const TURNS_SPENT: &[u8] = b"turns spent\n";
 
 const FOLDER_FAULT: &[u8] = b"folder fault\n";
 
@@ -76,6 +80,70 @@ pub fn tell_stop<N: Sink>(alloc: Global, stop: Stop<'_>, note: &mut N) -> Status
         Stop::Folder => try_line(note, Status::FolderFault, FOLDER_FAULT),
         Stop::Sink => try_line(note, Status::SinkFault, OUTPUT_FAULT),
         Stop::Mem => tell_no_memory(note),
+    }
+}
+
+/// Tells how a run of these files ended.
+pub fn tell_end<N: Sink>(alloc: Global, names: &[&str], end: End, note: &mut N) -> Status
+    requires { IsDefined end }
+    ensures { TellsEnd (names_seen names.now) end
+        (sink_state (N.held note.old) (N.faults note.old) (N.calls note.old))
+        (sink_state (N.held note.new) (N.faults note.new) (N.calls note.new)) result }
+{
+    match end {
+        End::Done(value @ 0..=63) => Status::Exit(value as u8),
+        End::Done(value) => tell_exit_value(alloc, value, note),
+        End::Halt(kind, file, line) => tell_halt(alloc, kind, name_of(names, file), line, note),
+        End::TurnsSpent => put_line(note, Status::TurnsSpent, TURNS_SPENT),
+        End::Stuck(_) => unreachable!(),
+    }
+}
+
+/// The name of the file with this number.
+fn name_of<'a>(names: &[&'a str], file: u32) -> &'a str
+    ensures { result.now ≡ file_name (names_seen names.now) file }
+{
+    match names.get(file as usize) {
+        Some(name) => name,
+        None => "",
+    }
+}
+
+/// Tells an exit value outside 0 to 63.
+fn tell_exit_value<N: Sink>(alloc: Global, value: i128, note: &mut N) -> Status
+    ensures { MakesAndTells (exit_value_line value) status.ExitValue
+        (sink_state (N.held note.old) (N.faults note.old) (N.calls note.old))
+        (sink_state (N.held note.new) (N.faults note.new) (N.calls note.new)) result }
+{
+    match format!(in alloc; "exit value {value}\n") {
+        Ok(line) => put_line(note, Status::ExitValue, line.as_bytes()),
+        Err(_) => tell_no_memory(note),
+    }
+}
+
+/// The kind of a halt, by its number.
+fn halt_kind(kind: u8) -> &'static str
+    ensures { result.now ≡ halt_kind kind }
+{
+    match kind {
+        1 => "Assert",
+        2 => "Halt",
+        3 => "Range",
+        4 => "Zero",
+        _ => "",
+    }
+}
+
+/// Tells a halt of this kind, at this line of the file with this name.
+fn tell_halt<N: Sink>(alloc: Global, kind: u8, name: &str, line: u32, note: &mut N) -> Status
+    ensures { MakesAndTells (halt_line kind name.now line) status.Halted
+        (sink_state (N.held note.old) (N.faults note.old) (N.calls note.old))
+        (sink_state (N.held note.new) (N.faults note.new) (N.calls note.new)) result }
+{
+    let kind = halt_kind(kind);
+    match format!(in alloc; "halt {kind} {name}:{line}\n") {
+        Ok(line) => put_line(note, Status::Halted, line.as_bytes()),
+        Err(_) => tell_no_memory(note),
     }
 }
 

@@ -4,7 +4,9 @@ use Rattle.sl_outside.specs.Sink.{sink_state}
 use Rattle.sl_outside.specs.Source.{source_state}
 use Rattle.sl_tool.specs.Words.{Run, Emit, BeginsNoCommand}
 use Rattle.sl_tool.specs.WordsReading.{command_of, names_seen}
-use Rattle.sl_tool.proofs.Paths.{usage_promise, words_memory_promise, exit_promise, stop_promise, emit_promise, refused_promise}
+use Rattle.sl_tool.specs.Outside.{outside}
+use Rattle.sl_tool.specs.Promise.{Promise}
+use Rattle.sl_tool.proofs.Paths.{usage_promise, words_memory_promise, end_promise, stop_promise, emit_promise, refused_promise}
 use Rattle.sl_tool.proofs.slang.Goals as goal
 
 -- the words have no reading
@@ -42,7 +44,19 @@ returns-in-Err g c =
 -- the program was run
 pub returns-in-Ok : goal.returns-in-Ok
 returns-in-Ok g c =
-    exit_promise
+    (subst (λ input. Promise (map string_bytes c.args.words.now.items)
+    (outside
+    (folder_state (g.F.Folder.files c.args.folder.now) (g.F.Folder.faults c.args.folder.now) (g.F.Folder.calls c.args.folder.now) (g.F.Folder.log c.args.folder.now))
+    (source_state (g.S.Source.left c.args.input.now) (g.S.Source.faults c.args.input.now) (g.S.Source.calls c.args.input.now))
+    (sink_state (g.K.Sink.held c.args.out.now) (g.K.Sink.faults c.args.out.now) (g.K.Sink.calls c.args.out.now))
+    (sink_state (g.N.Sink.held c.args.note.now) (g.N.Sink.faults c.args.note.now) (g.N.Sink.calls c.args.note.now)))
+    (outside
+    (folder_state (g.F.Folder.files c.run_files.new.folder) (g.F.Folder.faults c.run_files.new.folder) (g.F.Folder.calls c.run_files.new.folder) (g.F.Folder.log c.run_files.new.folder))
+    input
+    (sink_state (g.K.Sink.held c.run_files.new.out) (g.K.Sink.faults c.run_files.new.out) (g.K.Sink.calls c.run_files.new.out))
+    (sink_state (g.N.Sink.held c.tell_end.new.note) (g.N.Sink.faults c.tell_end.new.note) (g.N.Sink.calls c.tell_end.new.note)))
+    c.tell_end.result) (sym c.run_files.ensures.untouched)
+    (end_promise
     (map string_bytes c.args.words.now.items)
     (folder_state (g.F.Folder.files c.args.folder.now) (g.F.Folder.faults c.args.folder.now) (g.F.Folder.calls c.args.folder.now) (g.F.Folder.log c.args.folder.now))
     (folder_state (g.F.Folder.files c.run_files.new.folder) (g.F.Folder.faults c.run_files.new.folder) (g.F.Folder.calls c.run_files.new.folder) (g.F.Folder.log c.run_files.new.folder))
@@ -50,17 +64,33 @@ returns-in-Ok g c =
     (sink_state (g.K.Sink.held c.args.out.now) (g.K.Sink.faults c.args.out.now) (g.K.Sink.calls c.args.out.now))
     (sink_state (g.K.Sink.held c.run_files.new.out) (g.K.Sink.faults c.run_files.new.out) (g.K.Sink.calls c.run_files.new.out))
     (sink_state (g.N.Sink.held c.args.note.now) (g.N.Sink.faults c.args.note.now) (g.N.Sink.calls c.args.note.now))
-    (sink_state (g.N.Sink.held c.args.note.now) (g.N.Sink.faults c.args.note.now) (g.N.Sink.calls c.args.note.now))
-    (names_seen c.as_slice-in-Run.result.now)
+    (sink_state (g.N.Sink.held c.tell_end.new.note) (g.N.Sink.faults c.tell_end.new.note) (g.N.Sink.calls c.tell_end.new.note))
+    (names_seen c.as_slice-names.result.now)
     (let h = rw (c.in-Ok-Some.field-0-is, c.in-Run.is) at c.in-Ok-Some.ensures.read in
-    subst (λ files. command_of (map string_bytes c.args.words.now.items) ≡ Some (Run (names_seen files))) (sym c.as_slice-in-Run.ensures)
+    subst (λ files. command_of (map string_bytes c.args.words.now.items) ≡ Some (Run (names_seen files))) (sym c.as_slice-names.ensures)
     (subst (λ words. command_of (map string_bytes words) ≡ Some (Run (names_seen c.in-Run.files))) c.as_slice.ensures.value h))
-    c.in-Ok.value c.in-Ok.ensures.ran c.in-Ok.ensures.cause refl
+    c.in-Ok.end c.tell_end.result c.in-Ok.ensures.ran c.in-Ok.ensures.cause c.tell_end.ensures))
+
+-- how it ended is no undefined case
+pub tell_end-requires : goal.tell_end-requires
+tell_end-requires g c = c.in-Ok.ensures.ran.3
 
 -- it was not
 pub returns-in-Run : goal.returns-in-Run
 returns-in-Run g c =
-    stop_promise
+    (subst (λ input. Promise (map string_bytes c.args.words.now.items)
+    (outside
+    (folder_state (g.F.Folder.files c.args.folder.now) (g.F.Folder.faults c.args.folder.now) (g.F.Folder.calls c.args.folder.now) (g.F.Folder.log c.args.folder.now))
+    (source_state (g.S.Source.left c.args.input.now) (g.S.Source.faults c.args.input.now) (g.S.Source.calls c.args.input.now))
+    (sink_state (g.K.Sink.held c.args.out.now) (g.K.Sink.faults c.args.out.now) (g.K.Sink.calls c.args.out.now))
+    (sink_state (g.N.Sink.held c.args.note.now) (g.N.Sink.faults c.args.note.now) (g.N.Sink.calls c.args.note.now)))
+    (outside
+    (folder_state (g.F.Folder.files c.run_files.new.folder) (g.F.Folder.faults c.run_files.new.folder) (g.F.Folder.calls c.run_files.new.folder) (g.F.Folder.log c.run_files.new.folder))
+    input
+    (sink_state (g.K.Sink.held c.run_files.new.out) (g.K.Sink.faults c.run_files.new.out) (g.K.Sink.calls c.run_files.new.out))
+    (sink_state (g.N.Sink.held c.tell_stop.new.note) (g.N.Sink.faults c.tell_stop.new.note) (g.N.Sink.calls c.tell_stop.new.note)))
+    c.tell_stop.result) (sym c.run_files.ensures.untouched)
+    (stop_promise
     (map string_bytes c.args.words.now.items)
     (folder_state (g.F.Folder.files c.args.folder.now) (g.F.Folder.faults c.args.folder.now) (g.F.Folder.calls c.args.folder.now) (g.F.Folder.log c.args.folder.now))
     (folder_state (g.F.Folder.files c.run_files.new.folder) (g.F.Folder.faults c.run_files.new.folder) (g.F.Folder.calls c.run_files.new.folder) (g.F.Folder.log c.run_files.new.folder))
@@ -69,11 +99,11 @@ returns-in-Run g c =
     (sink_state (g.K.Sink.held c.run_files.new.out) (g.K.Sink.faults c.run_files.new.out) (g.K.Sink.calls c.run_files.new.out))
     (sink_state (g.N.Sink.held c.args.note.now) (g.N.Sink.faults c.args.note.now) (g.N.Sink.calls c.args.note.now))
     (sink_state (g.N.Sink.held c.tell_stop.new.note) (g.N.Sink.faults c.tell_stop.new.note) (g.N.Sink.calls c.tell_stop.new.note))
-    (names_seen c.as_slice-in-Run.result.now)
+    (names_seen c.as_slice-names.result.now)
     (let h = rw (c.in-Ok-Some.field-0-is, c.in-Run.is) at c.in-Ok-Some.ensures.read in
-    subst (λ files. command_of (map string_bytes c.args.words.now.items) ≡ Some (Run (names_seen files))) (sym c.as_slice-in-Run.ensures)
+    subst (λ files. command_of (map string_bytes c.args.words.now.items) ≡ Some (Run (names_seen files))) (sym c.as_slice-names.ensures)
     (subst (λ words. command_of (map string_bytes words) ≡ Some (Run (names_seen c.in-Run.files))) c.as_slice.ensures.value h))
-    c.in-Err-run_files.stop c.tell_stop.result c.in-Err-run_files.ensures.ran c.in-Err-run_files.ensures.cause c.tell_stop.ensures
+    c.in-Err-run_files.stop c.tell_stop.result c.in-Err-run_files.ensures.ran c.in-Err-run_files.ensures.cause c.tell_stop.ensures))
 
 -- the C was written
 pub returns-in-Ok-emit_files : goal.returns-in-Ok-emit_files

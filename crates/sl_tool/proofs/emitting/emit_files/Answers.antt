@@ -3,16 +3,19 @@ use Rattle.std.specs.Prelude.{Ok, Err}
 use Rattle.sl_outside.specs.Counts.{HasCause}
 use Rattle.sl_outside.specs.Folder.{is_fault, folder_state}
 use Rattle.sl_outside.specs.Sink.{PutGives, sink_state}
-use Rattle.sl_tool.specs.Tree.{written}
+use Rattle.sl_tool.specs.Written.{written}
 use Rattle.sl_tool.specs.Answer.{c_name}
 use Rattle.sl_tool.specs.Texts.{emitted_line}
 use Rattle.sl_tool.specs.WordsReading.{names_seen}
-use Rattle.sl_tool.proofs.Asking.{program_is_ok, emit_stopped}
+use Rattle.sl_tool.proofs.Asking.{program_is_ok, program_in_reach, emit_stopped}
 use Rattle.sl_tool.proofs.Writing.{program_written, write_refused, write_refused_cause}
 use Rattle.sl_tool.proofs.emitting.emit_files.Goals as goal
 
-pub c_text-requires : goal.c_text-requires
-c_text-requires g c = program_is_ok c.in_ok-program.ensures.read
+pub c_text-requires-clause-program : goal.c_text-requires-clause-program
+c_text-requires-clause-program g c = program_is_ok c.in_ok-program.ensures.read
+
+pub c_text-requires-clause-reach : goal.c_text-requires-clause-reach
+c_text-requires-clause-reach g c = program_in_reach c.in_ok-program.ensures.read
 
 -- the write was refused
 pub returns-in_err-write-clause-emitted : goal.returns-in_err-write-clause-emitted
@@ -45,6 +48,7 @@ returns-in-Ok-clause-emitted g c =
       writes =
           program_written c.args.name.now (names_seen c.args.names.now) c.in_ok-program.program before read after c.as_str-2.result.now c.as_slice-2.result.now (Ok tt)
           c.in_ok-program.ensures.read c.in_ok-write.ensures.counted named sent c.in_ok-write.ensures.written c.in_ok-write.ensures.logged;
+      is_tree = c.in_ok-text.ensures.means;
       is_text = c.in_ok-text.ensures.reads;
       told = record {
         taken = subst (λ line. PutGives (g.K.Sink.held c.args.out.now) (g.K.Sink.held c.put.new.self) line (Ok tt)) line c.in-Ok.ensures.taken;
@@ -68,6 +72,7 @@ returns-clause-emitted g c =
       writes =
           program_written c.args.name.now (names_seen c.args.names.now) c.in_ok-program.program before read after c.as_str-2.result.now c.as_slice-2.result.now (Ok tt)
           c.in_ok-program.ensures.read c.in_ok-write.ensures.counted named sent c.in_ok-write.ensures.written c.in_ok-write.ensures.logged;
+      is_tree = c.in_ok-text.ensures.means;
       is_text = c.in_ok-text.ensures.reads;
       told = record {
         taken = subst (λ line. PutGives (g.K.Sink.held c.args.out.now) (g.K.Sink.held c.put.new.self) line (Err (record {}))) line c.in-Err.ensures.taken;

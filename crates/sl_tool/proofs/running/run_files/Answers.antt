@@ -1,29 +1,26 @@
-use Rattle.std.proofs.Common.{sym, subst}
+use Rattle.std.proofs.Common.{[], inr}
+use Rattle.std.specs.Prelude.{Ok, Err}
 use Rattle.sl_outside.specs.Folder.{folder_state}
 use Rattle.sl_outside.specs.Sink.{sink_state}
+use Rattle.c_machine.specs.declared.ending.StepFault.TheVariants as fault
 use Rattle.sl_tool.specs.WordsReading.{names_seen}
-use Rattle.sl_tool.specs.Stepping.{IsSimple}
-use Rattle.sl_tool.proofs.Asking.{program_is_ok, run_stopped}
-use Rattle.sl_tool.proofs.Ran.{tree_simple, small_value, ran_value, ran_prints, ran_stopped, ran_spent, ran_stuck}
+use Rattle.sl_tool.proofs.Asking.{program_is_ok, program_in_reach, run_stopped}
+use Rattle.sl_tool.proofs.Ran.{tree_ran, tree_defined}
 use Rattle.sl_tool.proofs.running.run_files.Goals as goal
 
-pub build_tree-requires : goal.build_tree-requires
-build_tree-requires g c = (program_is_ok c.in_ok-program.ensures.read)
+pub translate-requires-clause-program : goal.translate-requires-clause-program
+translate-requires-clause-program g c = program_is_ok c.in_ok-program.ensures.read
 
-pub run_tree-requires : goal.run_tree-requires
-run_tree-requires g c = subst IsSimple (sym c.in_ok-tree.ensures) (tree_simple c.in_ok-program.program)
-
--- the exit value is that of the program, at most 63
-pub overflow_cast-result : goal.overflow_cast-result
-overflow_cast-result g c = small_value c.in_ok-program.program (program_is_ok c.in_ok-program.ensures.read) c.in_ok-tree.tree c.in_ok-tree.ensures c.in-Ok.value (sink_state (g.K.Sink.held c.args.out.now) (g.K.Sink.faults c.args.out.now) (g.K.Sink.calls c.args.out.now)) (sink_state (g.K.Sink.held c.run_tree.new.out) (g.K.Sink.faults c.run_tree.new.out) (g.K.Sink.calls c.run_tree.new.out)) c.in-Ok.ensures
+pub translate-requires-clause-reach : goal.translate-requires-clause-reach
+translate-requires-clause-reach g c = program_in_reach c.in_ok-program.ensures.read
 
 -- the program ran to its end
 pub returns-in-Ok-clause-ran : goal.returns-in-Ok-clause-ran
 returns-in-Ok-clause-ran g c = (
   c.in_ok-program.program,
   c.in_ok-program.ensures.read,
-  ran_value c.in_ok-program.program (program_is_ok c.in_ok-program.ensures.read) c.in_ok-tree.tree c.in_ok-tree.ensures c.in-Ok.value (sink_state (g.K.Sink.held c.args.out.now) (g.K.Sink.faults c.args.out.now) (g.K.Sink.calls c.args.out.now)) (sink_state (g.K.Sink.held c.run_tree.new.out) (g.K.Sink.faults c.run_tree.new.out) (g.K.Sink.calls c.run_tree.new.out)) c.in-Ok.ensures,
-  ran_prints c.in_ok-program.program (program_is_ok c.in_ok-program.ensures.read) c.in_ok-tree.tree c.in_ok-tree.ensures c.in-Ok.value (sink_state (g.K.Sink.held c.args.out.now) (g.K.Sink.faults c.args.out.now) (g.K.Sink.calls c.args.out.now)) (sink_state (g.K.Sink.held c.run_tree.new.out) (g.K.Sink.faults c.run_tree.new.out) (g.K.Sink.calls c.run_tree.new.out)) c.in-Ok.ensures,
+  tree_ran c.in_ok-program.program c.in_ok-tree.tree c.in_ok-tree.ensures.value c.in_ok-tree.ensures.means (sink_state (g.K.Sink.held c.args.out.now) (g.K.Sink.faults c.args.out.now) (g.K.Sink.calls c.args.out.now)) (sink_state (g.K.Sink.held c.run_tree.new.out) (g.K.Sink.faults c.run_tree.new.out) (g.K.Sink.calls c.run_tree.new.out)) (Ok c.in-Ok.end) c.in-Ok.ensures.ran,
+  tree_defined c.in_ok-program.program c.in_ok-tree.tree c.in_ok-tree.ensures.value c.in_ok-tree.ensures.means (sink_state (g.K.Sink.held c.args.out.now) (g.K.Sink.faults c.args.out.now) (g.K.Sink.calls c.args.out.now)) (sink_state (g.K.Sink.held c.run_tree.new.out) (g.K.Sink.faults c.run_tree.new.out) (g.K.Sink.calls c.run_tree.new.out)) c.in-Ok.end c.in-Ok.ensures.ran,
 )
 
 -- `out` failed
@@ -31,15 +28,20 @@ pub returns-in-Err-Sink-clause-ran : goal.returns-in-Err-Sink-clause-ran
 returns-in-Err-Sink-clause-ran g c = (
   c.in_ok-program.program,
   c.in_ok-program.ensures.read,
-  ran_stopped c.in_ok-program.program (program_is_ok c.in_ok-program.ensures.read) c.in_ok-tree.tree c.in_ok-tree.ensures (sink_state (g.K.Sink.held c.args.out.now) (g.K.Sink.faults c.args.out.now) (g.K.Sink.calls c.args.out.now)) (sink_state (g.K.Sink.held c.run_tree.new.out) (g.K.Sink.faults c.run_tree.new.out) (g.K.Sink.calls c.run_tree.new.out)) (rw c.in-Err-Sink.field-0-is at c.in-Err-Sink.ensures),
+  tree_ran c.in_ok-program.program c.in_ok-tree.tree c.in_ok-tree.ensures.value c.in_ok-tree.ensures.means (sink_state (g.K.Sink.held c.args.out.now) (g.K.Sink.faults c.args.out.now) (g.K.Sink.calls c.args.out.now)) (sink_state (g.K.Sink.held c.run_tree.new.out) (g.K.Sink.faults c.run_tree.new.out) (g.K.Sink.calls c.run_tree.new.out)) (Err fault.Sink) (rw c.in-Err-Sink.field-0-is at c.in-Err-Sink.ensures.ran),
 )
 
--- the tree needs no more turns, and isn't stuck
-pub unreachable-requires : goal.unreachable-requires
-unreachable-requires g c = ran_spent c.in_ok-program.program (program_is_ok c.in_ok-program.ensures.read) c.in_ok-tree.tree c.in_ok-tree.ensures (sink_state (g.K.Sink.held c.args.out.now) (g.K.Sink.faults c.args.out.now) (g.K.Sink.calls c.args.out.now)) (sink_state (g.K.Sink.held c.run_tree.new.out) (g.K.Sink.faults c.run_tree.new.out) (g.K.Sink.calls c.run_tree.new.out)) (rw c.in-Err-TurnsSpent.field-0-is at c.in-Err-TurnsSpent.ensures)
+-- memory ran out in the run
+pub returns-in-Err-Mem-clause-ran : goal.returns-in-Err-Mem-clause-ran
+returns-in-Err-Mem-clause-ran g c = inr (
+  c.in_ok-program.program,
+  c.in_ok-program.ensures.read,
+  tree_ran c.in_ok-program.program c.in_ok-tree.tree c.in_ok-tree.ensures.value c.in_ok-tree.ensures.means (sink_state (g.K.Sink.held c.args.out.now) (g.K.Sink.faults c.args.out.now) (g.K.Sink.calls c.args.out.now)) (sink_state (g.K.Sink.held c.run_tree.new.out) (g.K.Sink.faults c.run_tree.new.out) (g.K.Sink.calls c.run_tree.new.out)) (Err fault.Mem) (rw c.in-Err-Mem.field-0-is at c.in-Err-Mem.ensures.ran),
+)
 
-pub unreachable-requires-in-Err-Stuck : goal.unreachable-requires-in-Err-Stuck
-unreachable-requires-in-Err-Stuck g c = ran_stuck c.in_ok-program.program (program_is_ok c.in_ok-program.ensures.read) c.in_ok-tree.tree c.in_ok-tree.ensures (sink_state (g.K.Sink.held c.args.out.now) (g.K.Sink.faults c.args.out.now) (g.K.Sink.calls c.args.out.now)) (sink_state (g.K.Sink.held c.run_tree.new.out) (g.K.Sink.faults c.run_tree.new.out) (g.K.Sink.calls c.run_tree.new.out)) (rw c.in-Err-Stuck.field-0-is at c.in-Err-Stuck.ensures)
+-- no program asks for input
+pub unreachable-requires : goal.unreachable-requires
+unreachable-requires g c = let ran = rw c.in-Err-Input.field-0-is at c.in-Err-Input.ensures.ran in ran []
 
 -- memory ran out in making the tree
 pub returns-in_err-tree-clause-ran : goal.returns-in_err-tree-clause-ran

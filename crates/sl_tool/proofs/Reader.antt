@@ -1,9 +1,0 @@
-pub mod Lines
-pub mod Between
-pub mod Decisions
-pub mod Values
-pub mod Parts
-pub mod Feeds
-pub mod Heads
-pub mod Bodies
-pub mod StraightReading
