@@ -5,7 +5,7 @@ use sl_tool::slang;
 use std::alloc::Global;
 use std::test::Fail;
 
-/// The lines of a straight file before and behind its body.
+/// The lines of a plain file before and behind its body.
 const HEAD: &str =
     "// #Sireum\nimport org.sireum._\nobject X extends App {\n  def main(args: ISZ[String]): Z = {\n";
 
@@ -62,7 +62,7 @@ impl Called {
     }
 }
 
-/// The straight file with this body.
+/// The plain file with this body.
 pub fn app(alloc: Global, body: &str) -> Result<String, Fail> {
     Ok(format!(in alloc; "{HEAD}{body}{END}")?)
 }

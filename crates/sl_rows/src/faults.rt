@@ -13,25 +13,31 @@ const NOT_BUILT: &[u8] = b"not built\n";
 
 const BODY: &str = "    println(\"hi\")\n    return 7\n";
 
-/// What `emit` writes of this body: the first six lines, the tokens of the tree, and the last line.
-const WRITTEN: &str = "#include <stdint.h>
+/// The front of what `emit` writes of this body: the first six lines, and the prototypes.
+const FRONT: &str = "#include <stdint.h>
 #include <stdio.h>
 #include <stdlib.h>
 static inline void sl_put(int64_t b) { putchar((int)b); }
 static inline int64_t sl_get(void) { int c = getchar(); return c == EOF ? -1 : c; }
 static inline void sl_halt(int64_t k, int64_t f, int64_t n) { fflush(stdout); fprintf(stderr, \"halt %d %d:%d\\n\", (int)k, (int)f, (int)n); exit(66); }
-static int64_t sl_main(void);
 static int64_t m_X_dmain(void);
-static int64_t sl_main(void) {
-    m_X_dmain();
-    return INT64_C(7);
-}
+static int64_t sl_main(void);
+static inline int64_t sl_sum_fits(int64_t a, int64_t b) {
+";
 
+/// The end of it, behind the inline functions: the functions of the program, and the last line.
+const BACK: &str = "
 static int64_t m_X_dmain(void) {
     sl_put(INT64_C(104));
     sl_put(INT64_C(105));
     sl_put(INT64_C(10));
     return INT64_C(7);
+}
+
+static int64_t sl_main(void) {
+    int64_t v0;
+    v0 = m_X_dmain();
+    return v0;
 }
 int main(void) { return (int)sl_main(); }
 ";
@@ -66,10 +72,15 @@ fn each_call_of_run_refused(rt: HostRuntime) -> Result<(), Fail> {
     Ok(())
 }
 
-/// The line of `emit` on `out`.
-fn line(alloc: Global) -> Result<String, Fail> {
-    let length = WRITTEN.len();
+/// The line of `emit` on `out` where it wrote this.
+fn line(alloc: Global, written: &[u8]) -> Result<String, Fail> {
+    let length = written.len();
     Ok(format!(in alloc; "q.c {length} bytes\n")?)
+}
+
+/// Whether this is the C of the body.
+fn is_c(written: &[u8]) -> bool {
+    written.starts_with(FRONT.as_bytes()) && written.ends_with(BACK.as_bytes())
 }
 
 /// What fails in `emit`; and then the status, whether `out` got the line, what is on `note`, and whether `q.c` was written.
@@ -92,13 +103,16 @@ const EMIT: [Emitted; 10] = [
 fn each_call_of_emit_refused(rt: HostRuntime) -> Result<(), Fail> {
     let alloc = rt.alloc();
     let source = app(alloc, BODY)?;
-    let line = line(alloc)?;
     let files: [(&str, &[u8]); 2] = [("a.scala", source.as_bytes()), ("b", b"kept")];
+    let mut calm = call(alloc, &["emit", "-o", "q", "a.scala"], &files, CALM)?;
+    let c = calm.under(alloc, "q.c")?.ok_or("nothing was written")?;
+    assert!(rt; is_c(c.as_slice()));
+    let line = line(alloc, c.as_slice())?;
     for (what, code, told, note, written) in &EMIT {
         let mut called = call(alloc, &["emit", "-o", "q", "a.scala"], &files, *what)?;
         let out = if *told { line.as_bytes() } else { b"" };
         assert!(rt; called.told(*code, out, note));
-        assert!(rt; called.holds(alloc, "q.c", written.then_some(WRITTEN.as_bytes()))?);
+        assert!(rt; called.holds(alloc, "q.c", written.then_some(c.as_slice()))?);
         assert!(rt; called.holds(alloc, "a.scala", Some(source.as_bytes()))?);
         assert!(rt; called.holds(alloc, "b", Some(b"kept"))?);
     }
@@ -106,7 +120,7 @@ fn each_call_of_emit_refused(rt: HostRuntime) -> Result<(), Fail> {
 }
 
 /// Files that are named, and the calls of the folder that fail; and the status and the line of `run` and of `emit` on them, where
-/// nothing is written. `a`, `b` and `c` are straight, `empty` breaks L1, and `other` is neither. The last of the calls is one more
+/// nothing is written. `a`, `b` and `c` are plain, `empty` breaks L1, and `other` is neither. The last of the calls is one more
 /// than is to be made.
 const READS: [(&[&str], &[u64], u8, &[u8]); 14] = [
     (&["other"], &[2], 77, NOT_BUILT),

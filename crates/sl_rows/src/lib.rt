@@ -6,6 +6,8 @@ mod called;
 #[cfg(test)]
 mod faults;
 #[cfg(test)]
+mod plain;
+#[cfg(test)]
 mod rows;
 #[cfg(test)]
 mod words;

@@ -14,7 +14,7 @@ const ROWS: [Row; 12] = [
     ("    return 9\n", 9, b"", b""),
     ("    return 10\n", 10, b"", b""),
     ("    return 63\n", 63, b"", b""),
-    ("    return 64\n", 77, b"", NOT_BUILT),
+    ("    return 64\n", 69, b"", b"exit value 64\n"),
     ("    return 07\n", 77, b"", NOT_BUILT),
     (
         "    println(\"a\")\n    println(\"\")\n    println(\" ~\")\n    return 1\n",
@@ -123,7 +123,7 @@ fn padded(alloc: Global, mark: &[u8], length: usize) -> Result<Vec<u8>, Fail> {
     Ok(bytes)
 }
 
-/// Files that are named; and the status and the line of `run` and of `emit` on them. `a` and `b` are straight, `other` isn't and
+/// Files that are named; and the status and the line of `run` and of `emit` on them. `a` and `b` are plain, `other` isn't and
 /// breaks no rule, `short` and `empty` break L1, `most` has 4194304 bytes, `long` has one more, and `both` has that and no mark.
 const SEVERAL: [(&[&str], u8, &[u8]); 25] = [
     (&["most"], 77, NOT_BUILT),
