@@ -28,10 +28,11 @@ fn adding(alloc: Global) -> Result<Core, Mem> {
 #[test]
 fn a_sum_is_tested_and_computed_before_it_is_returned(rt: HostRuntime) -> Result<(), Fail> {
     let core = adding(rt.alloc())?;
-    let file = to_c(rt.alloc(), &core)?;
-    assert_eq!(rt; file.protos.len(), 1);
-    assert_eq!(rt; file.functions.len(), 8);
-    let function = file.functions.get(7).ok_or("no function")?;
+    let adds = core.functions.get(0).ok_or("no function")?;
+    let proto = proto_of(rt.alloc(), &core, 0, adds)?;
+    assert_eq!(rt; proto.name.as_str(), "sl_main");
+    assert_eq!(rt; proto.body.len(), 0);
+    let function = function_of(rt.alloc(), &core, 0, adds)?;
     assert_eq!(rt; function.name.as_str(), "sl_main");
     assert_eq!(rt; function.vars.len(), 1);
     assert_eq!(rt; function.body.len(), 4);
