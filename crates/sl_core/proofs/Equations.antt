@@ -4,7 +4,7 @@ use Rattle.std.specs.Prelude.{slice_get}
 use Rattle.sl_num.specs.declared.arithmetic.Op.{Op}
 use Rattle.sl_num.specs.declared.comparing.Comparison.{Comparison}
 use Rattle.sl_num.specs.Comparing.{holds}
-use Rattle.sl_run.specs.Run.{Trace, Went, Over, pure, over, ◌>>=◌, ◌>>◌, choose, put_all}
+use Rattle.sl_run.specs.Run.{Trace, Went, Over, pure, over, ◌>>=◌, ◌>>◌, choose, put_all, get, loop}
 use Rattle.sl_run.specs.Run as run
 use Rattle.sl_core.specs.declared.tree.Core.{Core}
 use Rattle.sl_core.specs.declared.tree.CorePath.{CorePath}
@@ -15,7 +15,7 @@ use Rattle.sl_core.specs.declared.tree.CoreStmt.{CoreStmt}
 use Rattle.sl_core.specs.declared.tree.CoreStmt.TheOpen as stmt_layer
 use Rattle.sl_core.specs.declared.tree.CoreStmt.TheVariants as stmt
 use Rattle.sl_core.specs.Memory.{Number, Bytes, Memory}
-use Rattle.sl_core.specs.Meaning.{with_some, with_number, read, store, apply_in, truth, evaluate, Next, Returned, Callees, in_order, is_true, printed_form, store_result, meaning}
+use Rattle.sl_core.specs.Meaning.{with_some, with_number, read, store, apply_in, truth, evaluate, Next, Broke, Returned, after_round, gotten, Callees, in_order, is_true, printed_form, store_result, meaning}
 use Rattle.sl_core.proofs.Layers.{evaluate_layer, meaning_layer}
 
 module _ (core : Core) where
@@ -54,6 +54,14 @@ module _ (core : Core) where
         ≡ evaluate core test >>= (λ value. with_number value (λ number. choose (is_true number) (in_order (map (meaning core) chosen) call) (in_order (map (meaning core) other) call)))
     if_is test chosen other = ap (λ s. meaning core s call) (sym (stmt.rolls-If test chosen other)) ∙ ap (λ m. m call) (meaning_layer core (stmt_layer.If test chosen other))
 
+    -- the statements go round until they leave the loop
+    pub loop_is : (stmts : List CoreStmt) → meaning core (stmt.Loop stmts) call ≡ loop (in_order (map (meaning core) stmts) call >>= (λ flow. pure (after_round flow)))
+    loop_is stmts = ap (λ s. meaning core s call) (sym (stmt.rolls-Loop stmts)) ∙ ap (λ m. m call) (meaning_layer core (stmt_layer.Loop stmts))
+
+    -- the loop around is left
+    pub break_is : meaning core stmt.Break call ≡ pure Broke
+    break_is = ap (λ s. meaning core s call) (sym stmt.rolls-Break) ∙ ap (λ m. m call) (meaning_layer core stmt_layer.Break)
+
     -- the function is called, and its result is stored
     pub call_is : (target : Option CorePath) (function : ℕ) → meaning core (stmt.Call target function) call ≡ call function >>= store_result target >> pure Next
     call_is target function = ap (λ s. meaning core s call) (sym (stmt.rolls-Call target function)) ∙ ap (λ m. m call) (meaning_layer core (stmt_layer.Call target function))
@@ -61,6 +69,10 @@ module _ (core : Core) where
     -- the expression is computed, and then printed
     pub put_is : (e : CoreExpr) → meaning core (stmt.Put e) call ≡ evaluate core e >>= (λ value. put_all (printed_form value)) >> pure Next
     put_is e = ap (λ s. meaning core s call) (sym (stmt.rolls-Put e)) ∙ ap (λ m. m call) (meaning_layer core (stmt_layer.Put e))
+
+    -- the input is asked, and what there is is stored
+    pub get_is : (path : CorePath) → meaning core (stmt.Get path) call ≡ get >>= (λ byte. store path (Number (gotten byte))) >> pure Next
+    get_is path = ap (λ s. meaning core s call) (sym (stmt.rolls-Get path)) ∙ ap (λ m. m call) (meaning_layer core (stmt_layer.Get path))
 
     -- the run ends in a halt
     pub halt_is : (kind file line : ℕ) → meaning core (stmt.Halt kind file line) call ≡ over (run.Halt kind file line)
@@ -99,6 +111,15 @@ module _ (core : Core) where
         ≡ (evaluate core test >>= (λ value. with_number value (λ number. choose (is_true number) (in_order (map (meaning core) chosen) call) (in_order (map (meaning core) other) call)))) t memory
     if_runs test chosen other t memory = ap (λ a. a t memory) (if_is core call test chosen other)
 
+    pub loop_runs : (stmts : List CoreStmt) (t : Trace) (memory : Memory) → meaning core (stmt.Loop stmts) call t memory ≡ loop (in_order (map (meaning core) stmts) call >>= (λ flow. pure (after_round flow))) t memory
+    loop_runs stmts t memory = ap (λ a. a t memory) (loop_is core call stmts)
+
+    pub break_runs : (t : Trace) (memory : Memory) → meaning core stmt.Break call t memory ≡ Went Broke t memory
+    break_runs t memory = ap (λ a. a t memory) (break_is core call)
+
+    pub get_runs : (path : CorePath) (t : Trace) (memory : Memory) → meaning core (stmt.Get path) call t memory ≡ (get >>= (λ byte. store path (Number (gotten byte))) >> pure Next) t memory
+    get_runs path t memory = ap (λ a. a t memory) (get_is core call path)
+
     pub call_runs : (target : Option CorePath) (function : ℕ) (t : Trace) (memory : Memory) → meaning core (stmt.Call target function) call t memory ≡ (call function >>= store_result target >> pure Next) t memory
     call_runs target function t memory = ap (λ a. a t memory) (call_is core call target function)
 
@@ -112,4 +133,4 @@ module _ (core : Core) where
     return_runs e t memory = ap (λ a. a t memory) (return_is core call e)
 
 -- the same at a moment of a run, as `simp` takes them
-pub ruleset running = (number_runs, text_runs, path_runs, apply_runs, compare_runs, store_runs, if_runs, call_runs, put_runs, halt_runs, return_runs)
+pub ruleset running = (number_runs, text_runs, path_runs, apply_runs, compare_runs, store_runs, if_runs, loop_runs, break_runs, get_runs, call_runs, put_runs, halt_runs, return_runs)

@@ -3,7 +3,7 @@ use Rattle.std.proofs.Common.{◌≡◌, ℕ, ℤ, List, [], ◌∷◌, false, S
 use Rattle.std.specs.Prelude.{pos, neg_ℤ, negsuc}
 use Rattle.sl_num.specs.declared.arithmetic.Op.TheVariants.{Add, Div, Rem}
 use Rattle.sl_num.specs.declared.comparing.Comparison.TheVariants.{Less}
-use Rattle.sl_run.specs.Run.{Done, Halt, TurnsSpent, Stuck, Puts}
+use Rattle.sl_run.specs.Run.{Done, Halt, TurnsSpent, Stuck, Puts, Asks}
 use Rattle.sl_run.specs.Outcome.{Outcome, whole_run}
 use Rattle.sl_core.specs.declared.tree.Core.{Core}
 use Rattle.sl_core.specs.declared.tree.CoreType.TheVariants.{Int}
@@ -85,6 +85,42 @@ chooses_other = simp running
 halts : run ((stmt.Halt 2 1 9) ∷ return (number (pos 4)) ∷ []) ≡ record { ending = Halt 2 1 9; events = []; rest = []; left = 9 }
 unfolding core_run whole_run
 halts = simp running
+
+-- each round of a loop takes a turn, and a `Break` leaves it: behind it nothing more is done in the loop, and what stands behind the
+-- loop is done
+breaks : run (store 0 (number (pos 0)) ∷ (stmt.Loop (store 0 (expr.Apply Add (value 0) (number (pos 1)) 0 0 6) ∷ (stmt.If (expr.Compare Less (value 0) (number (pos 3)) 0) [] (stmt.Break ∷ [])) ∷ put (expr.TextOf (codes "a")) ∷ [])) ∷ return (value 0) ∷ []) ≡ record { ending = Done (pos 3); events = Puts 97 ∷ Puts 97 ∷ []; rest = []; left = 6 }
+unfolding core_run whole_run
+breaks = simp running
+
+-- of two loops it leaves the inner one
+breaks_inner : run ((stmt.Loop ((stmt.Loop (stmt.Break ∷ [])) ∷ put (expr.TextOf (codes "a")) ∷ stmt.Break ∷ [])) ∷ return (number (pos 7)) ∷ []) ≡ record { ending = Done (pos 7); events = Puts 97 ∷ []; rest = []; left = 7 }
+unfolding core_run whole_run
+breaks_inner = simp running
+
+-- a return leaves both
+returns_from_loops : run ((stmt.Loop ((stmt.Loop (return (number (pos 7)) ∷ [])) ∷ put (expr.TextOf (codes "a")) ∷ [])) ∷ return (number (pos 4)) ∷ []) ≡ record { ending = Done (pos 7); events = []; rest = []; left = 7 }
+unfolding core_run whole_run
+returns_from_loops = simp running
+
+-- a loop that isn't left goes round as long as there are turns: of three the call takes one
+goes_on : core_run (core_of ((stmt.Loop (put (expr.TextOf (codes "a")) ∷ [])) ∷ [])) [] 3 ≡ record { ending = TurnsSpent; events = Puts 97 ∷ Puts 97 ∷ []; rest = []; left = 0 }
+unfolding core_run whole_run
+goes_on = simp running
+
+-- no loop stands around this `Break`
+breaks_nothing : run (stmt.Break ∷ return (number (pos 4)) ∷ []) ≡ record { ending = Stuck 1; events = []; rest = []; left = 9 }
+unfolding core_run whole_run
+breaks_nothing = simp running
+
+-- the next byte of the input is asked for and taken
+gets : core_run (core_of ((stmt.Get (var 0)) ∷ return (value 0) ∷ [])) (65 ∷ 66 ∷ []) 10 ≡ record { ending = Done (pos 65); events = Asks ∷ []; rest = 66 ∷ []; left = 9 }
+unfolding core_run whole_run
+gets = simp running
+
+-- at the end of the input it is asked for too, and there is -1
+gets_at_end : run ((stmt.Get (var 0)) ∷ put (expr.TextOf (codes "a")) ∷ (stmt.Get (var 1)) ∷ return (value 1) ∷ []) ≡ record { ending = Done (negsuc 0); events = Asks ∷ Puts 97 ∷ Asks ∷ []; rest = []; left = 9 }
+unfolding core_run whole_run
+gets_at_end = simp running
 
 -- a variable that wasn't written can't be read, nor can a function end without a result
 reads_unwritten : run (return (value 1) ∷ []) ≡ record { ending = Stuck 1; events = []; rest = []; left = 9 }

@@ -5,9 +5,9 @@ use Rattle.sl_num.specs.declared.arithmetic.Halt.{Halt}
 use Rattle.sl_num.specs.declared.arithmetic.Op.{Op}
 use Rattle.sl_num.specs.Arithmetic.{applied}
 use Rattle.sl_num.specs.Comparing.{holds}
-use Rattle.sl_run.specs.Run.{Act, pure, ◌>>=◌, ◌>>◌, choose, put_all}
+use Rattle.sl_run.specs.Run.{Act, pure, ◌>>=◌, ◌>>◌, choose, put_all, get}
 use Rattle.sl_run.specs.Laws.{Agrees, Respects}
-use Rattle.sl_run.proofs.Steady.{bind_agrees, pure_agrees, put_all_agrees, choose_agrees}
+use Rattle.sl_run.proofs.Steady.{bind_agrees, pure_agrees, put_all_agrees, get_agrees, choose_agrees, loop_agrees}
 use Rattle.sl_core.specs.declared.tree.Core.{Core}
 use Rattle.sl_core.specs.declared.tree.CoreType.{CoreType}
 use Rattle.sl_core.specs.declared.tree.CoreType.TheVariants.{Int}
@@ -18,7 +18,7 @@ use Rattle.sl_core.specs.declared.tree.CoreExpr.TheOpen as expr
 use Rattle.sl_core.specs.declared.tree.CoreStmt.{CoreStmt, CoreStmt-F, ind-CoreStmt, map-CoreStmt, roll-CoreStmt}
 use Rattle.sl_core.specs.declared.tree.CoreStmt.TheOpen as stmt
 use Rattle.sl_core.specs.Memory.{Value, Number, Bytes, Memory, held}
-use Rattle.sl_core.specs.Meaning.{stuck, with_some, with_number, root_of, read, store, number_or_halt, apply_in, truth, expr_step, evaluate, Flow, Next, Returned, Callees, Meaning, then_on, in_order, is_true, printed_form, store_result, stmt_step, meaning, begin, leave, given, body, functions}
+use Rattle.sl_core.specs.Meaning.{stuck, with_some, with_number, root_of, read, store, number_or_halt, apply_in, truth, expr_step, evaluate, Flow, Next, Broke, Returned, after_round, gotten, Callees, Meaning, then_on, in_order, is_true, printed_form, store_result, stmt_step, meaning, begin, leave, given, body, functions}
 use Rattle.sl_core.proofs.Layers.{evaluate_layer, meaning_layer}
 
 module _ (n : ℕ) where
@@ -56,11 +56,13 @@ module _ (n : ℕ) where
   -- what comes after a statement
   then_on_agrees : (go go' : Act Memory Flow) (flow : Flow) → Agrees n go go' → Agrees n (then_on go flow) (then_on go' flow)
   then_on_agrees go go' Next h = h
+  then_on_agrees go go' Broke h = pure_agrees n Broke
   then_on_agrees go go' (Returned value) h = pure_agrees n (Returned value)
 
   -- what a function gives
   given_agrees : (flow : Flow) → Agrees n (given flow) (given flow)
   given_agrees Next = stuck_agrees
+  given_agrees Broke = stuck_agrees
   given_agrees (Returned value) = pure_agrees n value
 
   -- a result that is stored
@@ -140,6 +142,14 @@ module _ (n : ℕ) where
             let b' = in_order (map (meaning core) (map only other)) call' in
             bind_agrees n (evaluate core test) (evaluate core test) (λ value. with_number value (λ number. choose (is_true number) a b)) (λ value. with_number value (λ number. choose (is_true number) a' b')) (evaluate_agrees test)
             (λ value. with_number_agrees value (λ number. choose (is_true number) a b) (λ number. choose (is_true number) a' b') (λ number. choose_agrees n (is_true number) a b a' b' (in_order_known chosen call call' h) (in_order_known other call call' h))))
+        layer (stmt.Loop stmts) =
+            via (stmt.Loop (map only stmts))
+            (λ call call' h.
+            let round = in_order (map (meaning core) (map only stmts)) call in
+            let round' = in_order (map (meaning core) (map only stmts)) call' in
+            loop_agrees n (round >>= (λ flow. pure (after_round flow))) (round' >>= (λ flow. pure (after_round flow)))
+            (bind_agrees n round round' (λ flow. pure (after_round flow)) (λ flow. pure (after_round flow)) (in_order_known stmts call call' h) (λ flow. pure_agrees n (after_round flow))))
+        layer stmt.Break = via stmt.Break (λ call call' h. pure_agrees n Broke)
         layer (stmt.Call target function) =
             via (stmt.Call target function)
             (λ call call' h. and_next (call function >>= store_result target) (call' function >>= store_result target) (bind_agrees n (call function) (call' function) (store_result target) (store_result target) (h function) (store_result_agrees target)))
@@ -147,6 +157,10 @@ module _ (n : ℕ) where
             via (stmt.Put e)
             (λ call call' h. and_next (evaluate core e >>= (λ value. put_all (printed_form value))) (evaluate core e >>= (λ value. put_all (printed_form value)))
             (bind_agrees n (evaluate core e) (evaluate core e) (λ value. put_all (printed_form value)) (λ value. put_all (printed_form value)) (evaluate_agrees e) (λ value. put_all_agrees n (printed_form value))))
+        layer (stmt.Get path) =
+            via (stmt.Get path)
+            (λ call call' h. and_next (get >>= (λ byte. store path (Number (gotten byte)))) (get >>= (λ byte. store path (Number (gotten byte))))
+            (bind_agrees n get get (λ byte. store path (Number (gotten byte))) (λ byte. store path (Number (gotten byte))) (get_agrees n) (λ byte t s le. (refl, le))))
         layer (stmt.Halt kind file line) = via (stmt.Halt kind file line) (λ call call' h t s le. (refl, le))
         layer (stmt.Return e) =
             via (stmt.Return e)

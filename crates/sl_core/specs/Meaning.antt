@@ -1,16 +1,16 @@
 -- What a core does, as a run. Values are copied. Where a core has no meaning (a variable is read that isn't there or wasn't
 -- written, a text stands where a number is wanted, the type of an operation or a called function isn't there, a function ends
--- without a result), the run ends with Stuck and the number of the function; a sound core never does (Sound.antt). A value that is
+-- without a result or by a `Break` outside loops), the run ends with Stuck and the number of the function; a sound core never does (Sound.antt). A value that is
 -- stored in a variable that isn't there is dropped, and the types of numbers, places and comparisons aren't looked at: a sound core
 -- has all variables and types that it names.
-use Rattle.std.specs.Prelude.{ℕ, ℤ, pos, List, [], ◌∷◌, Bool, true, false, not, ◌==◌, nat_abs, Option, None, Some, Result, Ok, Err, length, map, replicate, slice_get}
+use Rattle.std.specs.Prelude.{ℕ, ◌%◌, ℤ, pos, negsuc, List, [], ◌∷◌, Bool, true, false, not, ◌==◌, nat_abs, Option, None, Some, Result, Ok, Err, length, map, replicate, slice_get}
 use Rattle.std.specs.Fmt.{signed_decimal}
 use Rattle.sl_num.specs.declared.arithmetic.Op.{Op}
 use Rattle.sl_num.specs.declared.arithmetic.Halt.{Halt}
 use Rattle.sl_num.specs.declared.arithmetic.Halt.TheVariants.{Range, Zero}
 use Rattle.sl_num.specs.Arithmetic.{applied}
 use Rattle.sl_num.specs.Comparing.{holds}
-use Rattle.sl_run.specs.Run.{Stuck, Act, Over, Went, pure, over, ◌>>=◌, ◌>>◌, choose, put_all, turn, calls}
+use Rattle.sl_run.specs.Run.{Stuck, Act, Over, Went, pure, over, ◌>>=◌, ◌>>◌, choose, put_all, get, turn, loop, calls}
 use Rattle.sl_run.specs.Run as run
 use Rattle.sl_run.specs.Outcome.{Outcome, whole_run}
 use Rattle.sl_core.specs.declared.tree.Core.{Core}
@@ -91,9 +91,10 @@ evaluate core e = fold-CoreExpr (Act Memory Value) (expr_step core) e
 
 -- Statements ----------------------------------------------------------------------------------------------------------
 
--- how a statement is left: by the next one, or by a return
+-- how a statement is left: by the next one, by a `Break`, or by a return
 pub data Flow : Type 0 where
   Next : Flow
+  Broke : Flow
   Returned : (value : Value) → Flow
 
 -- what calls of functions by their numbers do, and give
@@ -107,12 +108,25 @@ Meaning = Callees → Act Memory Flow
 -- what comes after a statement that was left so
 abbrev pub then_on : Act Memory Flow → Flow → Act Memory Flow
 then_on go Next = go
+then_on go Broke = pure Broke
 then_on go (Returned value) = pure (Returned value)
 
--- statements in order, up to a return
+-- statements in order, up to a `Break` or a return
 abbrev pub in_order : List Meaning → Meaning
 in_order [] call = pure Next
 in_order (m ∷ ms) call = m call >>= then_on (in_order ms call)
+
+-- how a loop is left after a round of it that was left so, or nothing where it goes round again
+abbrev pub after_round : Flow → Option Flow
+after_round Next = None
+after_round Broke = Some Next
+after_round (Returned value) = Some (Returned value)
+
+-- What there is of the input, as a number: the byte, or -1 at the end. An input is a list of bytes; of a number in it that is none,
+-- it is the remainder by 256, so that on every list what there is is a byte
+abbrev pub gotten : Option ℕ → ℤ
+gotten None = negsuc 0
+gotten (Some byte) = pos (byte % 256)
 
 -- a number is true where it isn't 0
 abbrev pub is_true : ℤ → Bool
@@ -132,8 +146,11 @@ store_result (Some path) value = store path value
 abbrev pub stmt_step : Core → CoreStmt-F Meaning → Meaning
 stmt_step core (stmt.Store path e) call = evaluate core e >>= store path >> pure Next
 stmt_step core (stmt.If test chosen other) call = evaluate core test >>= (λ value. with_number value (λ number. choose (is_true number) (in_order chosen call) (in_order other call)))
+stmt_step core (stmt.Loop stmts) call = loop (in_order stmts call >>= (λ flow. pure (after_round flow)))
+stmt_step core stmt.Break call = pure Broke
 stmt_step core (stmt.Call target function) call = call function >>= store_result target >> pure Next
 stmt_step core (stmt.Put e) call = evaluate core e >>= (λ value. put_all (printed_form value)) >> pure Next
+stmt_step core (stmt.Get path) call = get >>= (λ byte. store path (Number (gotten byte))) >> pure Next
 stmt_step core (stmt.Halt kind file line) call = over (run.Halt kind file line)
 stmt_step core (stmt.Return e) call = evaluate core e >>= (λ value. pure (Returned value))
 
@@ -154,6 +171,7 @@ leave value t memory = Went value t (without_frame memory)
 abbrev pub given : Flow → Act Memory Value
 given (Returned value) = pure value
 given Next = stuck
+given Broke = stuck
 
 -- a function in its frame, to its end
 abbrev pub body : Core → ℕ → CoreFun → Callees → Act Memory Value

@@ -1,6 +1,6 @@
 -- Which cores are sound: their numbers are in range, their types fit, they don't nest too deep, and they are never stuck.
-use Rattle.std.specs.Prelude.{◌≡◌, ◌≢◌, ◌⊎◌, ℕ, ◌+◌, ℤ, pos, neg_ℤ, ◌-◌, ◌^◌, ◌≤◌, ◌<◌, ◌≤ℤ◌, int_le, nat_lt, length, List, Bool, true, false, not, ◌&&◌, ◌==◌, max, map, is_some, Option, None, Some, slice_get, if◌then◌else◌, All}
-use Rattle.std.specs.List.{list_all, fold, IsDistinct}
+use Rattle.std.specs.Prelude.{◌≡◌, ◌≢◌, ◌⊎◌, ℕ, ◌+◌, ℤ, pos, negsuc, neg_ℤ, ◌-◌, ◌^◌, ◌≤◌, ◌<◌, ◌≤ℤ◌, int_le, nat_lt, length, List, Bool, true, false, not, ◌&&◌, ◌||◌, ◌==◌, max, map, is_some, Option, None, Some, slice_get, if◌then◌else◌, All}
+use Rattle.std.specs.List.{list_all, list_any, fold, IsDistinct}
 use Rattle.std.specs.Option.{option_and_then}
 use Rattle.std.specs.Str.{bytes_eq}
 use Rattle.sl_num.specs.Types.{IsRange}
@@ -78,17 +78,39 @@ call_fits core function target number =
     not (number == core.entry)
     && is_some (option_and_then (λ callee. if result_fits function target callee.result then Some callee else None) (slice_get core.functions number))
 
+-- the variable of a place has a type that has -1 and all bytes
+abbrev pub holds_bytes : Core → CoreFun → CorePath → Bool
+holds_bytes core function path = is_some (option_and_then (λ type. if type_has core type (negsuc 0) && type_has core type (pos 255) then Some type else None) (type_of_place function path))
+
 -- the types in a statement fit, given whether they do in its parts
 abbrev pub fits_step : Core → CoreFun → CoreStmt-F Bool → Bool
 fits_step core function (stmt.Store path e) = is_some (option_and_then (λ type. if is_number_of type (kind_of core function e) then Some type else None) (type_of_place function path))
 fits_step core function (stmt.If test chosen other) = is_number (kind_of core function test) && list_all (λ fits. fits) chosen && list_all (λ fits. fits) other
+fits_step core function (stmt.Loop stmts) = list_all (λ fits. fits) stmts
+fits_step core function stmt.Break = true
 fits_step core function (stmt.Call target number) = call_fits core function target number
 fits_step core function (stmt.Put e) = is_some (kind_of core function e)
+fits_step core function (stmt.Get path) = holds_bytes core function path
 fits_step core function (stmt.Halt kind file line) = true
 fits_step core function (stmt.Return e) = is_number_of function.result (kind_of core function e)
 
 unfoldable pub fits : Core → CoreFun → CoreStmt → Bool
 fits core function s = fold-CoreStmt Bool (fits_step core function) s
+
+abbrev pub strays_step : CoreStmt-F Bool → Bool
+strays_step stmt.Break = true
+strays_step (stmt.If test chosen other) = list_any (λ strays. strays) chosen || list_any (λ strays. strays) other
+strays_step (stmt.Loop stmts) = false
+strays_step (stmt.Store path e) = false
+strays_step (stmt.Call target number) = false
+strays_step (stmt.Put e) = false
+strays_step (stmt.Get path) = false
+strays_step (stmt.Halt kind file line) = false
+strays_step (stmt.Return e) = false
+
+-- whether a `Break` stands in a statement, and no loop in the statement stands around it
+unfoldable pub strays : CoreStmt → Bool
+strays s = fold-CoreStmt Bool strays_step s
 
 -- Ranges --------------------------------------------------------------------------------------------------------------
 
@@ -111,8 +133,11 @@ expr_in_range e = fold-CoreExpr Bool expr_range_step e
 abbrev pub stmt_range_step : CoreStmt-F Bool → Bool
 stmt_range_step (stmt.Store path e) = expr_in_range e
 stmt_range_step (stmt.If test chosen other) = expr_in_range test && list_all (λ fits. fits) chosen && list_all (λ fits. fits) other
+stmt_range_step (stmt.Loop stmts) = list_all (λ fits. fits) stmts
+stmt_range_step stmt.Break = true
 stmt_range_step (stmt.Call target number) = true
 stmt_range_step (stmt.Put e) = expr_in_range e
+stmt_range_step (stmt.Get path) = true
 stmt_range_step (stmt.Halt kind file line) = nat_lt kind 256 && is_source_place file line
 stmt_range_step (stmt.Return e) = expr_in_range e
 
@@ -121,7 +146,8 @@ stmt_in_range s = fold-CoreStmt Bool stmt_range_step s
 
 -- Depth ---------------------------------------------------------------------------------------------------------------
 
--- how deep statements and expressions may nest together. The C of a core nests a few times deeper, and C nests at most 1024 deep
+-- How deep statements and expressions may nest together. The C of a core nests at most 4 levels deeper, and C may nest 1024 deep;
+-- statements that nest no deeper than this need at most 2 ^ 200 temporaries in C
 abbrev pub deepest : ℕ
 deepest = 200
 
@@ -141,8 +167,11 @@ greatest numbers = fold max 0 numbers
 abbrev pub stmt_depth_step : CoreStmt-F ℕ → ℕ
 stmt_depth_step (stmt.Store path e) = 1 + expr_depth e
 stmt_depth_step (stmt.If test chosen other) = 1 + max (expr_depth test) (max (greatest chosen) (greatest other))
+stmt_depth_step (stmt.Loop stmts) = 1 + greatest stmts
+stmt_depth_step stmt.Break = 1
 stmt_depth_step (stmt.Call target number) = 1
 stmt_depth_step (stmt.Put e) = 1 + expr_depth e
+stmt_depth_step (stmt.Get path) = 1
 stmt_depth_step (stmt.Halt kind file line) = 1
 stmt_depth_step (stmt.Return e) = 1 + expr_depth e
 
@@ -167,11 +196,12 @@ pub record IsInRange (function : CoreFun) : Type 0 where
   pub vars : length function.vars < 2 ^ 64
   pub body : All (λ s. stmt_in_range s ≡ true) function.body
 
--- a function: its variables and its result have types that there are, and its statements fit
+-- a function: its variables and its result have types that there are, its statements fit, and its `Break`s stand in loops
 pub record IsFunction (core : Core) (function : CoreFun) : Type 0 where
   pub vars : All (λ type. is_some (slice_get core.types type) ≡ true) function.vars
   pub result : is_some (slice_get core.types function.result) ≡ true
   pub fit : All (λ s. fits core function s ≡ true) function.body
+  pub loops : All (λ s. strays s ≡ false) function.body
   pub depth : All (λ s. stmt_depth s ≤ deepest) function.body
   pub in_range : IsInRange function
 

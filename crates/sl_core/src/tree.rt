@@ -45,10 +45,16 @@ pub enum CoreStmt {
     Store(CorePath, CoreExpr),
     /// The first statements where the number isn't 0, and else the second ones.
     If(CoreExpr, Row<CoreStmt>, Row<CoreStmt>),
+    /// The statements, again and again, until a `Break` or a `Return` in them. Each round takes a turn.
+    Loop(Row<CoreStmt>),
+    /// The innermost loop that stands around is left.
+    Break,
     /// The function with this number is called, and its result is stored at the place, if there is one.
     Call(Option<CorePath>, u32),
     /// The value is printed: a number in decimal, and a text as its bytes.
     Put(CoreExpr),
+    /// The next byte of the input is asked for, and stored at the place: -1 where the input is at its end.
+    Get(CorePath),
     /// The run ends in a halt of this kind, at this line of this file.
     Halt(u8, u32, u32),
     /// The function ends with this result.
