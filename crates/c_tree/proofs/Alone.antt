@@ -1,12 +1,12 @@
 -- What the C of a tree does doesn't look at the events so far.
-use Rattle.std.proofs.Common.{ℕ, ◌+◌, ℤ, List, [], ◌∷◌, Bool, Option, Some, None, refl, subst, sym, map}
+use Rattle.std.proofs.Common.{ℕ, zero, suc, ◌+◌, ℤ, List, [], ◌∷◌, Bool, Option, Some, None, refl, subst, sym, map}
 use Rattle.std.specs.Prelude.{true, pos, negsuc, neg_ℤ, nat_le, int_div, int_rem, reverse, slice_get, not, ◌&&◌}
 use Rattle.std.specs.Str.{bytes_eq}
 use Rattle.sl_num.specs.declared.comparing.Comparison.{Comparison}
 use Rattle.sl_num.specs.Comparing.{holds}
-use Rattle.sl_run.specs.Run.{Act, pure, ◌>>=◌, ◌>>◌, choose, put, calls}
+use Rattle.sl_run.specs.Run.{Act, pure, ◌>>=◌, ◌>>◌, choose, put, get, round_then, calls}
 use Rattle.sl_run.specs.Laws.{Alone}
-use Rattle.sl_run.proofs.Alone.{bind_alone, pure_alone, put_alone, choose_alone, turn_within_by_alone, calls_alone}
+use Rattle.sl_run.proofs.Alone.{bind_alone, pure_alone, put_alone, get_alone, choose_alone, round_then_alone, loop_alone, turn_within_by_alone, calls_alone}
 use Rattle.c_tree.specs.declared.tree.CFile.{CFile}
 use Rattle.c_tree.specs.declared.tree.CType.{CType}
 use Rattle.c_tree.specs.declared.tree.CType.TheVariants.{Int, Void}
@@ -14,6 +14,7 @@ use Rattle.c_tree.specs.declared.tree.CFun.{CFun}
 use Rattle.c_tree.specs.declared.tree.CArg.{CArg}
 use Rattle.c_tree.specs.declared.tree.CArg.TheVariants.{Value}
 use Rattle.c_tree.specs.declared.tree.CPlace.{CPlace}
+use Rattle.c_tree.specs.declared.tree.CPlace.TheVariants.{Name}
 use Rattle.c_tree.specs.declared.tree.CBinary.{CBinary}
 use Rattle.c_tree.specs.declared.tree.CBinary.TheVariants.{Add, Sub, Mul, Div, Rem}
 use Rattle.c_tree.specs.declared.tree.CStmt.{CStmt, CStmt-F, ind-CStmt, map-CStmt, roll-CStmt}
@@ -23,7 +24,7 @@ use Rattle.c_tree.specs.declared.tree.CExpr.TheOpen as expr
 use Rattle.c_tree.specs.Bytes.{charge}
 use Rattle.c_tree.specs.Scope.{Scope, scope_of}
 use Rattle.c_tree.specs.Memory.{Pointer, Tree, Number, Memory, live, held}
-use Rattle.c_tree.specs.Meaning.{Flow, Next, Returned, Callees, stuck, with_some, place_of, located, number_in, read_number, write_number, is_zero, same, Word, exact, divides, is_int64, int64, uint64, int64_of, binary_at, binary, truth, compared, negated, place_is_signed, read_word, expr_step, evaluate, arguments, Meaning, then_on, put_value, store_result, call_to, returned, stmt_step, meaning, block, given, begin, leave, body, begin_inline, inline_callees, number_of, numbered_call, callees, functions, charge_of, enter, run_callees}
+use Rattle.c_tree.specs.Meaning.{Flow, Next, Broke, Returned, Callees, stuck, with_some, place_of, located, number_in, read_number, write_number, is_zero, same, Word, exact, divides, is_int64, int64, uint64, int64_of, binary_at, binary, truth, compared, negated, place_is_signed, read_word, expr_step, evaluate, arguments, Meaning, then_on, after_round, rounds, gotten, put_value, store_result, call_to, returned, stmt_step, meaning, block, given, begin, leave, body, begin_inline, inline_callees, number_of, numbered_call, callees, functions, charge_of, enter, run_callees}
 use Rattle.c_tree.proofs.Layers.{evaluate_layer, meaning_layer}
 
 -- Values --------------------------------------------------------------------------------------------------------------
@@ -137,6 +138,7 @@ module _ (scope : Scope) where
 -- what comes after a statement
 pub then_on_alone : (go : Act Memory Flow) (flow : Flow) → Alone go → Alone (then_on go flow)
 then_on_alone go Next h = h
+then_on_alone go Broke h = pure_alone Broke
 then_on_alone go (Returned value) h = pure_alone (Returned value)
 
 -- a number that is put
@@ -155,6 +157,18 @@ store_result_alone pointer value = with_some_alone value (write_number pointer) 
 and_next : {A : Type 0} (a : Act Memory A) → Alone a → Alone (a >> pure Next)
 and_next a h = bind_alone a (λ _. pure Next) h (λ _. pure_alone Next)
 
+-- how a loop is left after a round
+round_alone : (body : Act Memory Flow) → Alone body → Alone (body >>= (λ flow. pure (after_round flow)))
+round_alone body h = bind_alone body (λ flow. pure (after_round flow)) h (λ flow. pure_alone (after_round flow))
+
+-- the rounds of a counted loop
+pub rounds_alone : (pointer : Pointer) (body : Act Memory Flow) → Alone body → (from count : ℕ) → Alone (rounds pointer body from count)
+rounds_alone pointer body h from zero = and_next (write_number pointer (pos from)) (write_number_alone pointer (pos from))
+rounds_alone pointer body h from (suc count) =
+    let rest : Act Memory Flow = rounds pointer body (suc from) count in
+    bind_alone (write_number pointer (pos from)) (λ _. body >>= (λ flow. round_then (after_round flow) rest)) (write_number_alone pointer (pos from))
+    (λ _. bind_alone body (λ flow. round_then (after_round flow) rest) h (λ flow. round_then_alone (after_round flow) rest (rounds_alone pointer body h (suc from) count)))
+
 module _ (scope : Scope) where
   -- a return
   returned_alone : (value : Option CExpr) → Alone (returned scope value)
@@ -166,6 +180,16 @@ module _ (scope : Scope) where
   assign_alone place e =
       bind_alone (located scope place) (λ pointer. evaluate scope e >>= (λ x. write_number pointer x.number)) (located_alone scope place)
       (λ pointer. bind_alone (evaluate scope e) (λ x. write_number pointer x.number) (evaluate_alone scope e) (λ x. write_number_alone pointer x.number))
+
+  -- a byte of the input that is stored
+  get_to_alone : (place : CPlace) → Alone (located scope place >>= (λ pointer. get >>= (λ byte. write_number pointer (gotten byte))))
+  get_to_alone place =
+      bind_alone (located scope place) (λ pointer. get >>= (λ byte. write_number pointer (gotten byte))) (located_alone scope place)
+      (λ pointer. bind_alone get (λ byte. write_number pointer (gotten byte)) get_alone (λ byte. write_number_alone pointer (gotten byte)))
+
+  -- a counted loop
+  count_alone : (set : List ℕ) (count : ℕ) (body : Act Memory Flow) → Alone body → Alone (located scope (Name set) >>= (λ pointer. rounds pointer body 0 count))
+  count_alone set count body h = bind_alone (located scope (Name set)) (λ pointer. rounds pointer body 0 count) (located_alone scope (Name set)) (λ pointer. rounds_alone pointer body h 0 count)
 
   -- the arguments of a call, and the call
   called_alone : (name : List ℕ) (args : List CArg) (call : Callees) → ((name : List ℕ) (args : List Tree) → Alone (call name args)) → Alone (arguments scope args >>= call name)
@@ -222,8 +246,16 @@ module _ (scope : Scope) where
       layer (stmt.If test chosen (Some other)) =
           via (stmt.If test (map only chosen) (Some (map only other)))
           (λ call h. if_alone test (block scope (map only chosen) call) (block scope (map only other) call) (in_order_known chosen call h) (in_order_known other call h))
+      layer (stmt.Loop body) =
+          via (stmt.Loop (map only body))
+          (λ call h. loop_alone (block scope (map only body) call >>= (λ flow. pure (after_round flow))) (round_alone (block scope (map only body) call) (in_order_known body call h)))
+      layer (stmt.Count set tested count raised body) =
+          via (stmt.Count set tested count raised (map only body)) (λ call h. count_alone set count (block scope (map only body) call) (in_order_known body call h))
+      layer stmt.Break = via stmt.Break (λ call h. pure_alone Broke)
       layer (stmt.Return value) = via (stmt.Return value) (λ call h. returned_alone value)
       layer (stmt.Put e) = via (stmt.Put e) (λ call h. bind_alone (evaluate scope e) (λ x. put_value x.number) (evaluate_alone scope e) (λ x. put_value_alone x.number))
+      layer (stmt.Get place) =
+          via (stmt.Get place) (λ call h. and_next (located scope place >>= (λ pointer. get >>= (λ byte. write_number pointer (gotten byte)))) (get_to_alone place))
       layer (stmt.Halt kind file line) = via (stmt.Halt kind file line) (λ call h earlier t s. refl)
 
 module _ (scope : Scope) (call : Callees) (h : (name : List ℕ) (args : List Tree) → Alone (call name args)) where
@@ -243,6 +275,7 @@ module _ (scope : Scope) (call : Callees) (h : (name : List ℕ) (args : List Tr
 -- what a function gives
 pub given_alone : (kind : CType) (flow : Flow) → Alone (given kind flow)
 given_alone kind (Returned value) earlier t s = refl
+given_alone kind Broke earlier t s = refl
 given_alone Void Next earlier t s = refl
 given_alone (Int signed width) Next earlier t s = refl
 

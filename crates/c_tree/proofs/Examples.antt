@@ -1,8 +1,8 @@
 -- What small trees do, and how many bytes things have.
 use Rattle.std.proofs.Common.{◌≡◌, ℕ, ℤ, List, [], ◌∷◌, true, false, Option, Some, None, refl, codes}
-use Rattle.std.specs.Prelude.{pos, negsuc}
+use Rattle.std.specs.Prelude.{◌%◌, pos, negsuc}
 use Rattle.sl_num.specs.declared.comparing.Comparison.TheVariants.{Less, Equal}
-use Rattle.sl_run.specs.Run.{Done, TurnsSpent, StackSpent, Stuck, Puts}
+use Rattle.sl_run.specs.Run.{Done, TurnsSpent, StackSpent, Stuck, Puts, Asks}
 use Rattle.sl_run.specs.Run as run
 use Rattle.sl_run.specs.Outcome.{Outcome, whole_run}
 use Rattle.c_tree.specs.declared.tree.CArg.TheVariants.{Value}
@@ -13,7 +13,7 @@ use Rattle.c_tree.specs.declared.tree.CMember.{CMember}
 use Rattle.c_tree.specs.declared.tree.CFun.{CFun}
 use Rattle.c_tree.specs.declared.tree.CPlace.TheVariants.{Name}
 use Rattle.c_tree.specs.declared.tree.CStmt.{CStmt}
-use Rattle.c_tree.specs.declared.tree.CStmt.TheVariants.{Call, If, Return, Put, Halt}
+use Rattle.c_tree.specs.declared.tree.CStmt.TheVariants.{Call, If, Loop, Count, Break, Return, Put, Get, Halt}
 use Rattle.c_tree.specs.declared.tree.CType.TheVariants.{Int, Void}
 use Rattle.c_tree.specs.declared.tree.CExpr.{CExpr}
 use Rattle.c_tree.specs.declared.tree.CExpr.TheVariants.{Binary, Compare, Negate}
@@ -337,6 +337,92 @@ branch_returns input turns = simp running
 pub halt_ends : (input : List ℕ) (turns : ℕ) → c_run (start_alone (say 65 ∷ Halt 2 0 31 ∷ say 66 ∷ give 7 ∷ [])) None input turns ≡ record { ending = run.Halt 2 0 31; events = Puts 65 ∷ []; rest = input; left = turns }
 unfolding c_run whole_run
 halt_ends input turns = simp running
+
+-- Loops ---------------------------------------------------------------------------------------------------------------
+
+-- `for (a = INT64_C(0); a < COUNT; a++) { .. }`
+abbrev counting : ℕ → List CStmt → CStmt
+counting count body = Count (codes "a") (codes "a") count (codes "a") body
+
+-- `a`
+abbrev counter : CExpr
+counter = named (codes "a")
+
+-- a counted loop has each number below its count, and leaves the count in its variable. It takes no turn
+pub counts_up : (input : List ℕ) (turns : ℕ) → c_run (with_variable (counting 3 (Put counter ∷ []) ∷ Return (Some counter) ∷ [])) None input turns ≡ record { ending = Done (pos 3); events = Puts 0 ∷ Puts 1 ∷ Puts 2 ∷ []; rest = input; left = turns }
+unfolding c_run whole_run
+counts_up input turns = simp running
+
+-- with the count 0 its block isn't done, and 0 is stored
+pub counts_none : (input : List ℕ) (turns : ℕ) → c_run (with_variable (counting 0 (say 65 ∷ []) ∷ Return (Some counter) ∷ [])) None input turns ≡ done_with (pos 0) input turns
+unfolding c_run whole_run
+counts_none input turns = simp running
+
+-- where it is left by a `break`, its variable has the number of this round
+pub count_broken : (input : List ℕ) (turns : ℕ) → c_run (with_variable (counting 5 (say 65 ∷ If (Compare Equal counter (signed 1)) (Break ∷ []) None ∷ say 66 ∷ []) ∷ Return (Some counter) ∷ [])) None input turns ≡ record { ending = Done (pos 1); events = Puts 65 ∷ Puts 66 ∷ Puts 65 ∷ []; rest = input; left = turns }
+unfolding c_run whole_run
+count_broken input turns = simp running
+
+-- a `for` whose variable nothing declares has no place
+pub count_nowhere : (input : List ℕ) (turns : ℕ) → c_run (start_alone (counting 0 [] ∷ give 7 ∷ [])) None input turns ≡ stuck_at_once input turns
+unfolding c_run whole_run
+count_nowhere input turns = simp running
+
+-- a loop takes a turn for each round, and is over where none is left
+pub loop_spends : (input : List ℕ) → c_run (start_alone (Loop (say 65 ∷ []) ∷ give 7 ∷ [])) None input 2 ≡ record { ending = TurnsSpent; events = Puts 65 ∷ Puts 65 ∷ []; rest = input; left = 0 }
+unfolding c_run whole_run
+loop_spends input = simp running
+
+-- a `break` leaves it, and what comes behind the loop is done
+pub loop_broken : (input : List ℕ) → c_run (start_alone (Loop (say 65 ∷ Break ∷ say 66 ∷ []) ∷ say 67 ∷ give 7 ∷ [])) None input 2 ≡ record { ending = Done (pos 7); events = Puts 65 ∷ Puts 67 ∷ []; rest = input; left = 1 }
+unfolding c_run whole_run
+loop_broken input = simp running
+
+-- without a turn its block isn't done at all
+pub loop_missed : (input : List ℕ) → c_run (start_alone (Loop (Break ∷ []) ∷ give 7 ∷ [])) None input 0 ≡ record { ending = TurnsSpent; events = []; rest = input; left = 0 }
+unfolding c_run whole_run
+loop_missed input = simp running
+
+-- a `break` leaves the innermost loop around it alone, though it stands in an `if`
+pub inner_broken : (input : List ℕ) → c_run (with_variable (counting 2 (Loop (If (signed 1) (Break ∷ []) None ∷ []) ∷ Put counter ∷ []) ∷ give 7 ∷ [])) None input 2 ≡ record { ending = Done (pos 7); events = Puts 0 ∷ Puts 1 ∷ []; rest = input; left = 0 }
+unfolding c_run whole_run
+inner_broken input = simp running
+
+-- a return leaves all loops around it, and the function
+pub loops_return : (input : List ℕ) → c_run (with_variable (Loop (counting 2 (Loop (say 65 ∷ give 8 ∷ []) ∷ say 66 ∷ []) ∷ say 67 ∷ []) ∷ give 7 ∷ [])) None input 2 ≡ record { ending = Done (pos 8); events = Puts 65 ∷ []; rest = input; left = 0 }
+unfolding c_run whole_run
+loops_return input = simp running
+
+-- a `break` in no loop leaves nothing
+pub break_alone : (input : List ℕ) (turns : ℕ) → c_run (start_alone (Break ∷ give 7 ∷ [])) None input turns ≡ stuck_at_once input turns
+unfolding c_run whole_run
+break_alone input turns = simp running
+
+-- The input -----------------------------------------------------------------------------------------------------------
+
+-- `a = sl_get();`
+abbrev getting : CStmt
+getting = Get (Name (codes "a"))
+
+-- the first byte is taken; of a number that is no byte, the remainder by 256
+pub byte_taken : (byte : ℕ) (input : List ℕ) (turns : ℕ) → c_run (with_variable (getting ∷ Return (Some counter) ∷ [])) None (byte ∷ input) turns ≡ record { ending = Done (pos (byte % 256)); events = Asks ∷ []; rest = input; left = turns }
+unfolding c_run whole_run
+byte_taken byte input turns = simp running
+
+-- at the end of the input there is -1, each time that it is asked for
+pub input_ended : (turns : ℕ) → c_run (with_variable (getting ∷ getting ∷ Return (Some counter) ∷ [])) None [] turns ≡ record { ending = Done (negsuc 0); events = Asks ∷ Asks ∷ []; rest = []; left = turns }
+unfolding c_run whole_run
+input_ended turns = simp running
+
+-- where there is no place, nothing is asked for
+pub get_nowhere : (input : List ℕ) (turns : ℕ) → c_run (start_alone (getting ∷ give 7 ∷ [])) None input turns ≡ stuck_at_once input turns
+unfolding c_run whole_run
+get_nowhere input turns = simp running
+
+-- all bytes are put, up to the end of the input
+pub all_echoed : c_run (with_variable (Loop (getting ∷ If (Compare Less counter (signed 0)) (Break ∷ []) None ∷ Put counter ∷ []) ∷ give 7 ∷ [])) None (65 ∷ 66 ∷ []) 3 ≡ record { ending = Done (pos 7); events = Asks ∷ Puts 65 ∷ Asks ∷ Puts 66 ∷ Asks ∷ []; rest = []; left = 0 }
+unfolding c_run whole_run
+all_echoed = simp running
 
 -- Calls with arguments ------------------------------------------------------------------------------------------------
 

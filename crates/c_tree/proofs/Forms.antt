@@ -5,7 +5,8 @@ use Rattle.std.specs.Fmt.{digits}
 use Rattle.std.proofs.lemmas.List.Elements.{All-nil, All-cons, All-head}
 use Rattle.c_tree.specs.declared.tree.CType.TheVariants.{Int}
 use Rattle.c_tree.specs.declared.tree.CExpr.TheVariants.{Const, Negate}
-use Rattle.c_tree.specs.declared.tree.CStmt.TheVariants.{If, Put}
+use Rattle.c_tree.specs.declared.tree.CPlace.TheVariants.{Name}
+use Rattle.c_tree.specs.declared.tree.CStmt.TheVariants.{If, Loop, Count, Put, Get}
 use Rattle.c_tree.specs.Words.{reserved_words}
 use Rattle.c_tree.specs.Parts.{Constant}
 use Rattle.c_tree.specs.Flat.{cflat}
@@ -24,8 +25,11 @@ pub tokens_of_file :
     ∷ codes "static" ∷ codes "int64_t" ∷ codes "g" ∷ codes ";"
     ∷ codes "static" ∷ codes "int64_t" ∷ codes "sl_main" ∷ codes "(" ∷ codes "void" ∷ codes ")" ∷ codes ";"
     ∷ codes "static" ∷ codes "int64_t" ∷ codes "k" ∷ codes "(" ∷ codes "int64_t" ∷ codes "h" ∷ codes ")" ∷ codes ";"
+    ∷ codes "static" ∷ codes "void" ∷ codes "e" ∷ codes "(" ∷ codes "void" ∷ codes ")" ∷ codes ";"
     ∷ codes "static" ∷ codes "inline" ∷ codes "void" ∷ codes "h" ∷ codes "(" ∷ codes "int64_t" ∷ codes "x" ∷ codes ")" ∷ codes "{"
-    ∷ codes "sl_put" ∷ codes "(" ∷ codes "x" ∷ codes ")" ∷ codes ";" ∷ codes "}"
+    ∷ codes "int64_t" ∷ codes "n" ∷ codes ";"
+    ∷ codes "for" ∷ codes "(" ∷ codes "n" ∷ codes "=" ∷ codes "INT64_C" ∷ codes "(" ∷ codes "0" ∷ codes ")" ∷ codes ";" ∷ codes "n" ∷ codes "<" ∷ codes "2" ∷ codes ";" ∷ codes "n" ∷ codes "++" ∷ codes ")" ∷ codes "{"
+    ∷ codes "sl_put" ∷ codes "(" ∷ codes "x" ∷ codes ")" ∷ codes ";" ∷ codes "}" ∷ codes "}"
     ∷ codes "static" ∷ codes "inline" ∷ codes "void" ∷ codes "i" ∷ codes "(" ∷ codes "void" ∷ codes ")" ∷ codes "{"
     ∷ codes "h" ∷ codes "(" ∷ codes "INT64_C" ∷ codes "(" ∷ codes "65" ∷ codes ")" ∷ codes ")" ∷ codes ";" ∷ codes "}"
     ∷ codes "static" ∷ codes "int64_t" ∷ codes "sl_main" ∷ codes "(" ∷ codes "void" ∷ codes ")" ∷ codes "{"
@@ -36,6 +40,11 @@ pub tokens_of_file :
     ∷ codes "g" ∷ codes "=" ∷ codes "h" ∷ codes ";"
     ∷ codes "if" ∷ codes "(" ∷ codes "UINT64_C" ∷ codes "(" ∷ codes "0" ∷ codes ")" ∷ codes ")" ∷ codes "{" ∷ codes "sl_halt" ∷ codes "(" ∷ codes "1" ∷ codes "," ∷ codes "0" ∷ codes "," ∷ codes "2" ∷ codes ")" ∷ codes ";" ∷ codes "}"
     ∷ codes "return" ∷ codes "g" ∷ codes ";" ∷ codes "}"
+    ∷ codes "static" ∷ codes "void" ∷ codes "e" ∷ codes "(" ∷ codes "void" ∷ codes ")" ∷ codes "{"
+    ∷ codes "int64_t" ∷ codes "b" ∷ codes ";"
+    ∷ codes "while" ∷ codes "(" ∷ codes "1" ∷ codes ")" ∷ codes "{" ∷ codes "b" ∷ codes "=" ∷ codes "sl_get" ∷ codes "(" ∷ codes ")" ∷ codes ";"
+    ∷ codes "if" ∷ codes "(" ∷ codes "(" ∷ codes "int64_t" ∷ codes ")" ∷ codes "(" ∷ codes "b" ∷ codes "<" ∷ codes "INT64_C" ∷ codes "(" ∷ codes "0" ∷ codes ")" ∷ codes ")" ∷ codes ")" ∷ codes "{" ∷ codes "break" ∷ codes ";" ∷ codes "}"
+    ∷ codes "sl_put" ∷ codes "(" ∷ codes "b" ∷ codes ")" ∷ codes ";" ∷ codes "}" ∷ codes "}"
     ∷ []
 unfolding cflat digits
 tokens_of_file = simp (flat_statements_are, flat_expressions_are)
@@ -91,3 +100,7 @@ no_greater_unsigned small = let fits = constant_of false 18446744073709551616 sm
 -- `if (INT64_C(1)) { sl_put((-INT64_C(2))); }` nests four deep: the `if`, the put, the negation and the constant
 pub nested_depth : stmt_depth (If (signed 1) (Put (Negate (signed 2)) ∷ []) None) ≡ 4
 nested_depth = simp (statement_depths_are, expression_depths_are)
+
+-- `while (1) { for (..) { a = sl_get(); } }` nests four deep: the two loops, the get and its place
+pub loop_depth : stmt_depth (Loop (Count (codes "n") (codes "n") 2 (codes "n") (Get (Name (codes "a")) ∷ []) ∷ [])) ≡ 4
+loop_depth = simp statement_depths_are

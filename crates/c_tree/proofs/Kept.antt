@@ -1,12 +1,12 @@
 -- A tree with something of everything breaks no rule: a struct with an array and a union, a global variable, inline functions of
 -- which one calls the other with an argument, a function whose result is stored and which stands behind its caller, an `if` with
--- `else` and one without, and a halt.
-use Rattle.std.proofs.Common.{◌≡◌, ◌≢◌, ◌⊎◌, ℕ, ◌^◌, ◌<◌, List, [], ◌∷◌, ◌++◌, map, true, false, Option, Some, None, refl, sym, subst, ap, ◌∙◌, inl, inr, arith, All, Contains, codes, bytes_eq}
+-- `else` and one without, a counted loop in an inline function, a loop that is left by a `break` in an `if`, a byte of the input, and a
+-- halt.
+use Rattle.std.proofs.Common.{◌≡◌, ◌≢◌, ◌⊎◌, ℕ, ◌^◌, ◌<◌, ◌≤◌, List, [], ◌∷◌, ◌++◌, map, true, false, Option, Some, None, refl, sym, subst, ap, ◌∙◌, inl, inr, arith, All, Contains, codes, bytes_eq}
 use Rattle.std.specs.Prelude.{option_map}
 use Rattle.std.specs.List.{AllByRecursion, count_by, list_any, IsDistinct}
 use Rattle.std.proofs.lemmas.List.Elements.{All-nil, All-cons, All-contains, All-from_recursion}
 use Rattle.std.proofs.lemmas.List.Folds.{list_any_at}
-use Rattle.std.proofs.lemmas.Slice.Eq.{bytes_eq-Decides}
 use Rattle.sl_num.specs.declared.comparing.Comparison.TheVariants.{Less}
 use Rattle.c_tree.specs.declared.tree.CArg.TheVariants.{Value}
 use Rattle.c_tree.specs.declared.tree.CBinary.TheVariants.{Add}
@@ -18,19 +18,19 @@ use Rattle.c_tree.specs.declared.tree.CFun.{CFun}
 use Rattle.c_tree.specs.declared.tree.CPlace.{CPlace}
 use Rattle.c_tree.specs.declared.tree.CPlace.TheVariants.{Name}
 use Rattle.c_tree.specs.declared.tree.CStmt.{CStmt}
-use Rattle.c_tree.specs.declared.tree.CStmt.TheVariants.{Call, If, Return, Put, Halt}
+use Rattle.c_tree.specs.declared.tree.CStmt.TheVariants.{Call, If, Loop, Count, Break, Return, Put, Get, Halt}
 use Rattle.c_tree.specs.declared.tree.CType.{CType}
 use Rattle.c_tree.specs.declared.tree.CType.TheVariants.{Int, Void}
 use Rattle.c_tree.specs.declared.tree.CExpr.{CExpr}
 use Rattle.c_tree.specs.declared.tree.CExpr.TheVariants.{Binary, Compare, Negate}
 use Rattle.c_tree.specs.Words.{reserved_words}
-use Rattle.c_tree.specs.Parts.{Leaf, Constant, Reads, leaves, Action, Assigns, Calls, Tests, Returns, Puts, Halts, actions_in}
+use Rattle.c_tree.specs.Parts.{Leaf, Constant, Reads, leaves, Action, Assigns, Calls, Tests, Returns, Puts, Gets, Loops, Counts, Halts, actions_in}
 use Rattle.c_tree.specs.Bytes.{struct_extent, called}
-use Rattle.c_tree.specs.Scope.{Scope, scope_of, variable}
-use Rattle.c_tree.specs.Rules.{var_names, fun_names, NamesClash, BreaksSizes, IsDeclared, NamesRead, NamesVariable, BreaksOutside, BreaksInside, Breaks, is_word, type_of_name, typed, HasExpr, HasOtherType, HasWrongValue, ArgumentsMisfit, last_is, ends_function, AreAlike, KeepsRules}
+use Rattle.c_tree.specs.Scope.{Scope, scope_of, var_named, or_else, variable}
+use Rattle.c_tree.specs.Rules.{var_names, fun_names, NamesClash, BreaksSizes, IsDeclared, NamesRead, NamesVariable, BreaksOutside, BreaksInside, Breaks, is_word, type_of_name, typed, CanCount, recounts, some_are, strays, HasExpr, HasOtherType, HasWrongValue, ArgumentsMisfit, last_is, ends_function, AreAlike, KeepsRules}
 use Rattle.c_tree.specs.Rules as rules
-use Rattle.c_tree.proofs.Variants.{leaves_are, types_are, actions_are, ends_are}
-use Rattle.c_tree.proofs.Lists.{in_none, first_in, second_in, of_one, AllPlaces, at_place}
+use Rattle.c_tree.proofs.Variants.{leaves_are, types_are, actions_are, ends_are, strays_are, recounts_are}
+use Rattle.c_tree.proofs.Lists.{names_differ, in_none, first_in, second_in, of_one, AllPlaces, at_place}
 use Rattle.c_tree.proofs.Small.{word, proto_of, function_with, inline_with, start_with, signed, unsigned, named, give, bare_call, set, member_of}
 
 -- Typed functions -----------------------------------------------------------------------------------------------------
@@ -76,6 +76,11 @@ right_operands scope e kind keeps misfit = let same : true ≡ false = sym (ap (
 declared_name : (scope : Scope) (name : List ℕ) (kind : CType) → type_of_name scope name ≡ Some kind → variable scope name ≢ None
 declared_name scope name kind is none = let same : None ≡ Some kind = sym (ap (λ var. option_map (λ (var : CVar). var.kind) var) none) ∙ is in cc
 
+-- a local variable with a type is declared
+counter_known : (local other : Option CVar) → option_map (λ (var : CVar). var.kind) local ≡ Some rules.word → or_else local other ≢ None
+counter_known None other is none = cc
+counter_known (Some var) other is none = cc
+
 -- arguments that keep the rules don't differ from the parameters
 right_arguments : (scope : Scope) (es : List CExpr) (params : List CVar) → ArgumentsKeep scope es params → ¬ ArgumentsMisfit scope es params
 right_arguments scope [] [] keeps misfit = misfit
@@ -114,6 +119,9 @@ module _ (file : CFile) (before : List CFun) (function : CFun) where
   ActionKeeps (Returns None) = function.result ≡ Void
   ActionKeeps (Returns (Some e)) = ExprKeeps inside e function.result
   ActionKeeps (Puts e) = ExprKeeps inside e rules.word
+  ActionKeeps (Gets (Name name)) = type_of_name inside name ≡ Some rules.word
+  ActionKeeps Loops = function.inline ≡ false
+  ActionKeeps (Counts set tested raised count) = CanCount function set × (tested ≡ set) × (raised ≡ set) × (count ≤ 2 ^ 24)
   ActionKeeps (Halts kind file line) = Unit {0}
 
   -- a name that is called is declared and not hidden, and where the caller is inline it is that of an inline function before it
@@ -131,6 +139,8 @@ module _ (file : CFile) (before : List CFun) (function : CFun) where
     pub callees : List (List ℕ)
     pub calls : called function ≡ callees
     pub reached : AllByRecursion NameKeeps callees
+    pub counts : list_any (λ s. recounts s []) function.body ≡ false
+    pub breaks : some_are (map strays function.body) ≡ false
     pub ends : function.result ≢ Void → last_is (map ends_function function.body) ≡ true
 
   module _ (keeps : FunctionKeeps) where
@@ -150,6 +160,12 @@ module _ (file : CFile) (before : List CFun) (function : CFun) where
     target_known (Some (Name other)) result kept name is =
         let same : other ≡ name = cc in subst (λ name. variable inside name ≢ None) same (declared_name inside other result kept.0)
 
+    -- the three names of a `for` are one
+    counted_name : (set tested raised name : List ℕ) → tested ≡ set → raised ≡ set → (set ≡ name) ⊎ (tested ≡ name) ⊎ (raised ≡ name) → set ≡ name
+    counted_name set tested raised name h k (inl is) = is
+    counted_name set tested raised name h k (inr (inl is)) = sym h ∙ is
+    counted_name set tested raised name h k (inr (inr is)) = sym k ∙ is
+
     -- an action names no variable that isn't declared
     names_known : (action : Action) → ActionKeeps action → (name : List ℕ) → NamesVariable action name → variable inside name ≢ None
     names_known (Assigns (Name other) e) kept name (inl is) =
@@ -164,6 +180,10 @@ module _ (file : CFile) (before : List CFun) (function : CFun) where
     names_known (Returns (Some value)) kept name (e, is, read) =
         let same : value ≡ e = cc in reads_known inside value function.result kept name (subst (λ e. NamesRead e name) (sym same) read)
     names_known (Puts e) kept name read = reads_known inside e rules.word kept name read
+    names_known (Gets (Name other)) kept name is = let same : other ≡ name = cc in subst (λ name. variable inside name ≢ None) same (declared_name inside other rules.word kept)
+    names_known Loops kept name read = absurd read
+    names_known (Counts set tested raised count) kept name named =
+        subst (λ name. variable inside name ≢ None) (counted_name set tested raised name kept.1 kept.2 named) (counter_known (var_named (function.params ++ function.vars) set) (var_named file.globals set) kept.0)
     names_known (Halts kind file line) kept name read = absurd read
 
     -- the operands in its expressions fit
@@ -177,6 +197,9 @@ module _ (file : CFile) (before : List CFun) (function : CFun) where
     operands_right (Returns (Some value)) kept e is =
         let same : value ≡ e = cc in subst (λ e. (typed inside e).fits ≢ false) same (right_operands inside value function.result kept)
     operands_right (Puts value) kept e is = subst (λ e. (typed inside e).fits ≢ false) is (right_operands inside value rules.word kept)
+    operands_right (Gets place) kept e is = absurd is
+    operands_right Loops kept e is = absurd is
+    operands_right (Counts set tested raised count) kept e is = absurd is
     operands_right (Halts kind file line) kept e is = absurd is
 
     -- and its value has the type that is wanted
@@ -190,6 +213,9 @@ module _ (file : CFile) (before : List CFun) (function : CFun) where
     value_right (Returns None) kept wrong = wrong kept
     value_right (Returns (Some e)) kept wrong = right_type inside e function.result kept wrong
     value_right (Puts e) kept wrong = right_type inside e rules.word kept wrong
+    value_right (Gets (Name name)) kept (kind, is, other) = let same : Some rules.word ≡ Some kind = sym kept ∙ is in other cc
+    value_right Loops kept wrong = wrong
+    value_right (Counts set tested raised count) kept wrong = wrong
     value_right (Halts kind file line) kept wrong = wrong
 
     -- what is called so is the one function with the name
@@ -201,6 +227,13 @@ module _ (file : CFile) (before : List CFun) (function : CFun) where
     result_right : (place : CPlace) (result : CType) → TargetKeeps inside (Some place) result → ¬ ((result ≡ Void) ⊎ ((kind : CType) × (rules.type_of_place inside place ≡ Some kind) × (kind ≢ result)))
     result_right (Name name) result kept (inl none) = kept.1 none
     result_right (Name name) result kept (inr (kind, is, differ)) = let same : Some result ≡ Some kind = sym kept.0 ∙ is in differ cc
+
+    -- a `for` counts in a variable that can count, and not too far
+    count_right : (set tested raised : List ℕ) (count : ℕ) → ActionKeeps (Counts set tested raised count) → ¬ ((2 ^ 24 < count) ⊎ (tested ≢ set) ⊎ (raised ≢ set) ⊎ (¬ CanCount function set))
+    count_right set tested raised count kept (inl far) = let near : count ≤ 2 ^ 24 = kept.3 in absurd (omega arith)
+    count_right set tested raised count kept (inr (inl other)) = other kept.1
+    count_right set tested raised count kept (inr (inr (inl other))) = other kept.2
+    count_right set tested raised count kept (inr (inr (inr not))) = not kept.0
 
     -- so it breaks no rule
     function_keeps : (rule : ℕ) → ¬ BreaksInside file before function rule
@@ -222,10 +255,15 @@ module _ (file : CFile) (before : List CFun) (function : CFun) where
         let right : kept.0 ≡ other = cc in
         let wide : true ≡ false = sym kept.1 ∙ (ap is_word right ∙ narrow) in
         cc
-    function_keeps rule (inr (inr (inr (inr (inr (inr (inr (inl (is, (inline, (name, among, not))))))))))) =
+    function_keeps rule (inr (inr (inr (inr (inr (inr (inr (inl (is, (inline, inl loops)))))))))) = let same : true ≡ false = sym inline ∙ action_keeps Loops loops in cc
+    function_keeps rule (inr (inr (inr (inr (inr (inr (inr (inl (is, (inline, inr (name, among, not))))))))))) =
         let below : (callee : CFun) × Contains before callee × (callee.inline ≡ true) × (callee.name ≡ name) = (name_keeps name among).below inline in
         not below.0 below.1 below.2 below.3
-    function_keeps rule (inr (inr (inr (inr (inr (inr (inr (inr (is, (result, ended)))))))))) = let same : true ≡ false = sym (keeps.ends result) ∙ ended in cc
+    function_keeps rule (inr (inr (inr (inr (inr (inr (inr (inr (inl (is, inl (set, tested, raised, count, among, wrong))))))))))) =
+        count_right set tested raised count (action_keeps (Counts set tested raised count) among) wrong
+    function_keeps rule (inr (inr (inr (inr (inr (inr (inr (inr (inl (is, inr stores)))))))))) = let same : true ≡ false = sym stores ∙ keeps.counts in cc
+    function_keeps rule (inr (inr (inr (inr (inr (inr (inr (inr (inr (is, inl strays)))))))))) = let same : true ≡ false = sym strays ∙ keeps.breaks in cc
+    function_keeps rule (inr (inr (inr (inr (inr (inr (inr (inr (inr (is, inr (result, ended))))))))))) = let same : true ≡ false = sym (keeps.ends result) ∙ ended in cc
 
 -- The tree -----------------------------------------------------------------------------------------------------------
 
@@ -237,9 +275,13 @@ union_member = record { name = codes "u"; kind = Void; count = None; choice = wo
 abbrev struct : CStruct
 struct = record { name = codes "s"; members = member_of (codes "a") (Some (2 ^ 20)) ∷ union_member ∷ [] }
 
--- an inline function that puts its parameter
+-- an inline function that puts its parameter twice, `for (n = INT64_C(0); n < 2; n++) { sl_put(x); }`
 abbrev low : CFun
-low = record (inline_with (codes "h") Void (Put (named (codes "x")) ∷ [])) { params = word (codes "x") ∷ [] }
+low =
+    record (inline_with (codes "h") Void (Count (codes "n") (codes "n") 2 (codes "n") (Put (named (codes "x")) ∷ []) ∷ [])) {
+      params = word (codes "x") ∷ [];
+      vars = word (codes "n") ∷ [];
+    }
 
 -- one that calls it
 abbrev high : CFun
@@ -264,13 +306,21 @@ last =
       params = word (codes "h") ∷ [];
     }
 
+-- `if ((int64_t)(b < INT64_C(0))) { break; }`
+abbrev leaving : CStmt
+leaving = If (Compare Less (named (codes "b")) (signed 0)) (Break ∷ []) None
+
+-- a function that puts what there is of the input: `while (1) { b = sl_get(); .. sl_put(b); }`
+abbrev echo : CFun
+echo = record (function_with (codes "e") Void (Loop (Get (Name (codes "b")) ∷ leaving ∷ Put (named (codes "b")) ∷ []) ∷ [])) { vars = word (codes "b") ∷ [] }
+
 -- the whole tree
 abbrev pub file : CFile
 file = record {
   structs = struct ∷ [];
   globals = word (codes "g") ∷ [];
-  protos = proto_of start ∷ proto_of last ∷ [];
-  functions = low ∷ high ∷ start ∷ last ∷ [];
+  protos = proto_of start ∷ proto_of last ∷ proto_of echo ∷ [];
+  functions = low ∷ high ∷ start ∷ last ∷ echo ∷ [];
 }
 
 -- Names --------------------------------------------------------------------------------------------------------------
@@ -295,9 +345,9 @@ none_clash = no_clash [] tt tt
 globals_keep : ¬ NamesClash (var_names file.globals ++ fun_names file.functions)
 unfolding IsDistinct
 globals_keep =
-    no_clash (codes "g" ∷ codes "h" ∷ codes "i" ∷ codes "sl_main" ∷ codes "k" ∷ [])
-    ((refl, (refl, (refl, (refl, tt)))), ((refl, (refl, (refl, tt))), ((refl, (refl, tt)), ((refl, tt), (tt, tt)))))
-    (free (codes "g") refl refl, (free (codes "h") refl refl, (free (codes "i") refl refl, (free (codes "sl_main") refl refl, (free (codes "k") refl refl, tt)))))
+    no_clash (codes "g" ∷ codes "h" ∷ codes "i" ∷ codes "sl_main" ∷ codes "k" ∷ codes "e" ∷ [])
+    ((refl, (refl, (refl, (refl, (refl, tt))))), ((refl, (refl, (refl, (refl, tt)))), ((refl, (refl, (refl, tt))), ((refl, (refl, tt)), ((refl, tt), (tt, tt))))))
+    (free (codes "g") refl refl, (free (codes "h") refl refl, (free (codes "i") refl refl, (free (codes "sl_main") refl refl, (free (codes "k") refl refl, (free (codes "e") refl refl, tt))))))
 
 -- the name of the struct, those of its members, and those of the union's
 struct_keeps : ¬ NamesClash (codes "s" ∷ [])
@@ -339,7 +389,7 @@ HasProto function = function.inline ≡ false → count_by (λ proto. bytes_eq p
 
 -- each function here has
 one_proto : AllByRecursion HasProto file.functions
-one_proto = (λ no. cc, (λ no. cc, (λ no. refl, (λ no. refl, tt))))
+one_proto = (λ no. cc, (λ no. cc, (λ no. refl, (λ no. refl, (λ no. refl, tt)))))
 
 -- and each prototype has such a function
 abbrev IsAlone : CFun → Type 0
@@ -349,7 +399,10 @@ IsAlone proto = (function : CFun) → Contains file.functions function → funct
 no_alone : AllByRecursion (λ proto. ¬ IsAlone proto) file.protos
 no_alone = (
   λ alone. alone start (2, omega arith, refl) refl (record { name = refl; result = refl; params = refl }),
-  (λ alone. alone last (3, omega arith, refl) refl (record { name = refl; result = refl; params = refl }), tt),
+  (
+    λ alone. alone last (3, omega arith, refl) refl (record { name = refl; result = refl; params = refl }),
+    (λ alone. alone echo (4, omega arith, refl) refl (record { name = refl; result = refl; params = refl }), tt),
+  ),
 )
 
 -- nothing is broken outside functions
@@ -364,10 +417,6 @@ outside_keeps rule (inr (inr (is, inr (inl h)))) = All-contains (λ proto. ¬ Is
 outside_keeps rule (inr (inr (is, inr (inr none)))) = none start (2, omega arith, refl) (record { name = refl; called = refl; result = refl; params = refl })
 
 -- In functions -------------------------------------------------------------------------------------------------------
-
--- names that differ aren't equal
-names_differ : (a b : List ℕ) → bytes_eq a b ≡ false → a ≢ b
-names_differ a b differ same = let equal : bytes_eq a b ≡ true = (bytes_eq-Decides a b).1 same in cc
 
 -- a constant keeps the rules
 constant_keeps : (scope : Scope) (number : ℕ) → ExprKeeps scope (signed number) (Int true 64)
@@ -387,16 +436,23 @@ one_keeps : (name : List ℕ) → list_any (bytes_eq name) reserved_words ≡ fa
 unfolding IsDistinct
 one_keeps name none same = no_clash (name ∷ []) (tt, tt) (free name none same, tt)
 
+-- a parameter and a variable don't
+low_names : ¬ NamesClash (codes "x" ∷ codes "n" ∷ [])
+unfolding IsDistinct
+low_names = no_clash (codes "x" ∷ codes "n" ∷ []) ((refl, tt), (tt, tt)) (free (codes "x") refl refl, (free (codes "n") refl refl, tt))
+
 -- each function keeps the rules
 low_keeps : FunctionKeeps file [] low
 low_keeps = record {
-  names = one_keeps (codes "x") refl refl;
-  does = Puts (named (codes "x")) ∷ [];
+  names = low_names;
+  does = Counts (codes "n") (codes "n") (codes "n") 2 ∷ Puts (named (codes "x")) ∷ [];
   acts = simp actions_are;
-  each = (name_keeps_rules (scope_of file low) (codes "x") refl, tt);
+  each = ((refl, refl, refl, omega arith), (name_keeps_rules (scope_of file low) (codes "x") refl, tt));
   callees = [];
   calls = simp actions_are;
   reached = tt;
+  counts = simp recounts_are;
+  breaks = simp strays_are;
   ends = λ not. absurd (not refl);
 }
 
@@ -409,7 +465,7 @@ high_keeps = record {
   each = (
     record {
       callee = low;
-      only = (λ _. refl, (λ same. absurd (names_differ (codes "i") (codes "h") refl same), (λ same. absurd (names_differ (codes "sl_main") (codes "h") refl same), (λ same. absurd (names_differ (codes "k") (codes "h") refl same), tt))));
+      only = (λ _. refl, (λ same. absurd (names_differ (codes "i") (codes "h") refl same), (λ same. absurd (names_differ (codes "sl_main") (codes "h") refl same), (λ same. absurd (names_differ (codes "k") (codes "h") refl same), (λ same. absurd (names_differ (codes "e") (codes "h") refl same), tt)))));
       fits = (constant_keeps (scope_of file high) 65, tt);
       stored = tt;
     },
@@ -418,6 +474,8 @@ high_keeps = record {
   callees = codes "h" ∷ [];
   calls = simp actions_are;
   reached = (record { declared = inr (inr (first_in (codes "h") [])); seen = in_none (codes "h"); below = λ _. (low, first_in low [], refl, refl) }, tt);
+  counts = simp recounts_are;
+  breaks = simp strays_are;
   ends = λ not. absurd (not refl);
 }
 
@@ -436,7 +494,7 @@ start_keeps = record {
   each = (
     record {
       callee = last;
-      only = (λ same. absurd (names_differ (codes "h") (codes "k") refl same), (λ same. absurd (names_differ (codes "i") (codes "k") refl same), (λ same. absurd (names_differ (codes "sl_main") (codes "k") refl same), (λ _. refl, tt))));
+      only = (λ same. absurd (names_differ (codes "h") (codes "k") refl same), (λ same. absurd (names_differ (codes "i") (codes "k") refl same), (λ same. absurd (names_differ (codes "sl_main") (codes "k") refl same), (λ _. refl, (λ same. absurd (names_differ (codes "e") (codes "k") refl same), tt)))));
       fits = (record { parts = Constant true 1 ∷ Constant true 2 ∷ []; are = simp leaves_are; known = (tt, (tt, tt)); type = simp types_are }, tt);
       stored = (refl, λ same. cc);
     },
@@ -447,7 +505,7 @@ start_keeps = record {
         (
           record {
             callee = high;
-            only = (λ same. absurd (names_differ (codes "h") (codes "i") refl same), (λ _. refl, (λ same. absurd (names_differ (codes "sl_main") (codes "i") refl same), (λ same. absurd (names_differ (codes "k") (codes "i") refl same), tt))));
+            only = (λ same. absurd (names_differ (codes "h") (codes "i") refl same), (λ _. refl, (λ same. absurd (names_differ (codes "sl_main") (codes "i") refl same), (λ same. absurd (names_differ (codes "k") (codes "i") refl same), (λ same. absurd (names_differ (codes "e") (codes "i") refl same), tt)))));
             fits = tt;
             stored = tt;
           },
@@ -473,6 +531,8 @@ start_keeps = record {
       tt,
     ),
   );
+  counts = simp recounts_are;
+  breaks = simp strays_are;
   ends = λ _. simp ends_are;
 }
 
@@ -492,7 +552,33 @@ last_keeps = record {
   callees = [];
   calls = simp actions_are;
   reached = tt;
+  counts = simp recounts_are;
+  breaks = simp strays_are;
   ends = λ _. simp ends_are;
+}
+
+-- so does the function with the loop
+echo_keeps : FunctionKeeps file (low ∷ high ∷ start ∷ last ∷ []) echo
+echo_keeps = record {
+  names = one_keeps (codes "b") refl refl;
+  does = Loops ∷ Gets (Name (codes "b")) ∷ Tests (Compare Less (named (codes "b")) (signed 0)) ∷ Puts (named (codes "b")) ∷ [];
+  acts = simp actions_are;
+  each = (
+    refl,
+    (
+      refl,
+      (
+        (Int true 64, refl, record { parts = Reads (Name (codes "b")) ∷ Constant true 0 ∷ []; are = simp leaves_are; known = (λ none. cc, (tt, tt)); type = simp types_are }),
+        (name_keeps_rules (scope_of file echo) (codes "b") refl, tt),
+      ),
+    ),
+  );
+  callees = [];
+  calls = simp actions_are;
+  reached = tt;
+  counts = simp recounts_are;
+  breaks = simp strays_are;
+  ends = λ not. absurd (not refl);
 }
 
 -- nothing is broken in any
@@ -501,7 +587,10 @@ inside_keeps = (
   function_keeps file [] low low_keeps,
   (
     function_keeps file (low ∷ []) high high_keeps,
-    (function_keeps file (low ∷ high ∷ []) start start_keeps, (function_keeps file (low ∷ high ∷ start ∷ []) last last_keeps, tt)),
+    (
+      function_keeps file (low ∷ high ∷ []) start start_keeps,
+      (function_keeps file (low ∷ high ∷ start ∷ []) last last_keeps, (function_keeps file (low ∷ high ∷ start ∷ last ∷ []) echo echo_keeps, tt)),
+    ),
   ),
 )
 

@@ -7,7 +7,7 @@ use Rattle.c_tree.specs.Parts.{Leaf, leaves_step, leaves, Action, actions_step, 
 use Rattle.c_tree.specs.Flat.{Lexeme, flat_expr_step, flat_expr, flat_stmt_step, flat_stmt}
 use Rattle.c_tree.specs.WellFormed.{expr_depth_step, expr_depth, stmt_depth_step, stmt_depth}
 use Rattle.c_tree.specs.Scope.{Scope}
-use Rattle.c_tree.specs.Rules.{Typed, typed_step, typed, ends_step, ends_function}
+use Rattle.c_tree.specs.Rules.{Typed, typed_step, typed, recounts_step, recounts, ends_step, ends_function, strays_step, strays}
 use Rattle.c_tree.specs.Memory.{Memory}
 use Rattle.c_tree.specs.Meaning.{Word, expr_step, evaluate, Meaning, stmt_step, meaning}
 
@@ -55,6 +55,16 @@ stmt_depth_layer x = fold-roll-CStmt ℕ stmt_depth_step x
 pub typed_layer : (scope : Scope) (x : CExpr-F CExpr) → typed scope (roll-CExpr x) ≡ typed_step scope (map-CExpr CExpr Typed (typed scope) x)
 unfolding typed
 typed_layer scope x = fold-roll-CExpr Typed (typed_step scope) x
+
+-- whether a statement stores in the variable of a `for` around it
+pub recounts_layer : (x : CStmt-F CStmt) → recounts (roll-CStmt x) ≡ recounts_step (map-CStmt CStmt (List (List ℕ) → Bool) recounts x)
+unfolding recounts
+recounts_layer x = fold-roll-CStmt (List (List ℕ) → Bool) recounts_step x
+
+-- whether a `break` stands in a statement outside its loops
+pub strays_layer : (x : CStmt-F CStmt) → strays (roll-CStmt x) ≡ strays_step (map-CStmt CStmt Bool strays x)
+unfolding strays
+strays_layer x = fold-roll-CStmt Bool strays_step x
 
 -- whether nothing comes behind a statement
 pub ends_layer : (x : CStmt-F CStmt) → ends_function (roll-CStmt x) ≡ ends_step (map-CStmt CStmt Bool ends_function x)

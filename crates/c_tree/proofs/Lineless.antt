@@ -4,7 +4,7 @@ use Rattle.std.specs.Prelude.{◌⊎◌, ℤ, not, ◌&&◌, nat_lt}
 use mathlib.Core.List.{reverse_aux}
 use Rattle.std.specs.List.{list_any, prefix_len}
 use Rattle.std.specs.Str.{bytes_eq}
-use Rattle.sl_run.specs.Run.{Trace, Act, choose, ◌>>◌, ◌>>=◌, calls, keep_within, turn_within}
+use Rattle.sl_run.specs.Run.{Act, choose, ◌>>◌, ◌>>=◌, calls, keep_within, turn_within}
 use Rattle.sl_run.specs.Outcome.{whole_run}
 use Rattle.c_tree.specs.declared.tree.CFile.{CFile}
 use Rattle.c_tree.specs.declared.tree.CFun.{CFun}
@@ -222,12 +222,13 @@ module _ (file : CFile) (protos others : List CFun) (same : SameButLines file.fu
         let found = in_first file.functions others same callee among in
         inr (inr (inr (inr (inr (inl (is, (found.0, place, args, (found.1, subst (λ callee. Contains (actions_in f.body) (Calls (Some place) callee.name args)) found.2 called_so), subst (λ callee. (callee.result ≡ Void) ⊎ ((kind : CType) × (type_of_place (scope_of file f) place ≡ Some kind) × (kind ≢ callee.result))) found.2 misfit)))))))
     breaks_inside before before' h f line rule (inr (inr (inr (inr (inr (inr (inl conditions))))))) = inr (inr (inr (inr (inr (inr (inl conditions))))))
-    breaks_inside before before' h f line rule (inr (inr (inr (inr (inr (inr (inr (inl (is, (inline, (name, called_so, none))))))))))) =
+    breaks_inside before before' h f line rule (inr (inr (inr (inr (inr (inr (inr (inl (is, (inline, inl loops)))))))))) = inr (inr (inr (inr (inr (inr (inr (inl (is, (inline, inl loops)))))))))
+    breaks_inside before before' h f line rule (inr (inr (inr (inr (inr (inr (inr (inl (is, (inline, inr (name, called_so, none))))))))))) =
         inr (inr (inr (inr (inr (inr (inr (inl (
           is,
           (
             inline,
-            (
+            inr (
               name,
               called_so,
               λ callee among is_inline same_name.
@@ -236,7 +237,8 @@ module _ (file : CFile) (protos others : List CFun) (same : SameButLines file.fu
             ),
           ),
         ))))))))
-    breaks_inside before before' h f line rule (inr (inr (inr (inr (inr (inr (inr (inr ends)))))))) = inr (inr (inr (inr (inr (inr (inr (inr ends)))))))
+    breaks_inside before before' h f line rule (inr (inr (inr (inr (inr (inr (inr (inr (inl counts))))))))) = inr (inr (inr (inr (inr (inr (inr (inr (inl counts))))))))
+    breaks_inside before before' h f line rule (inr (inr (inr (inr (inr (inr (inr (inr (inr ends))))))))) = inr (inr (inr (inr (inr (inr (inr (inr (inr ends))))))))
 
     -- prototypes and functions
     alike_still : (proto function proto' function' : CFun) → proto' ≡ on_line proto'.line proto → function' ≡ on_line function'.line function → AreAlike proto' function' → AreAlike proto function

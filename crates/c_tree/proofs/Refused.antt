@@ -1,5 +1,5 @@
 -- Each rule is broken by a small tree.
-use Rattle.std.proofs.Common.{◌≡◌, ◌≢◌, ℕ, ◌+◌, ◌^◌, List, [], ◌∷◌, true, false, Some, None, refl, sym, ap, inl, inr, arith, Contains, codes, bytes_eq}
+use Rattle.std.proofs.Common.{◌≡◌, ◌≢◌, ℕ, ◌+◌, ◌^◌, ◌<◌, ◌⊎◌, List, [], ◌∷◌, map, true, false, Some, None, refl, sym, ap, inl, inr, arith, Contains, codes, bytes_eq}
 use Rattle.std.specs.List.{list_any, IsDistinct}
 use Rattle.c_tree.specs.declared.tree.CArg.TheVariants.{Value}
 use Rattle.c_tree.specs.declared.tree.CBinary.TheVariants.{Add}
@@ -9,17 +9,17 @@ use Rattle.c_tree.specs.declared.tree.CMember.{CMember}
 use Rattle.c_tree.specs.declared.tree.CFun.{CFun}
 use Rattle.c_tree.specs.declared.tree.CPlace.TheVariants.{Name}
 use Rattle.c_tree.specs.declared.tree.CStmt.{CStmt}
-use Rattle.c_tree.specs.declared.tree.CStmt.TheVariants.{Call, If, Return, Put}
+use Rattle.c_tree.specs.declared.tree.CStmt.TheVariants.{Call, If, Loop, Count, Break, Return, Put, Get}
 use Rattle.c_tree.specs.declared.tree.CType.{CType}
 use Rattle.c_tree.specs.declared.tree.CType.TheVariants.{Int, Void}
 use Rattle.c_tree.specs.declared.tree.CExpr.{CExpr}
 use Rattle.c_tree.specs.declared.tree.CExpr.TheVariants.{Binary, Negate}
-use Rattle.c_tree.specs.Parts.{Reads, Action, Assigns, Calls, Tests, Returns, Puts, actions_in}
+use Rattle.c_tree.specs.Parts.{Reads, Action, Assigns, Calls, Tests, Returns, Puts, Gets, Loops, Counts, actions_in}
 use Rattle.c_tree.specs.Bytes.{called}
 use Rattle.c_tree.specs.Scope.{Scope, scope_of}
-use Rattle.c_tree.specs.Rules.{var_names, typed, NamesClash, IsDeclared, BreaksOutside, BreaksInside, Breaks, AreAlike, IsStart}
-use Rattle.c_tree.proofs.Variants.{actions_are, leaves_are, types_are, ends_are}
-use Rattle.c_tree.proofs.Lists.{in_none, first_in, second_in, in_same, of_one}
+use Rattle.c_tree.specs.Rules.{var_names, typed, NamesClash, IsDeclared, CanCount, recounts, some_are, strays, BreaksOutside, BreaksInside, Breaks, AreAlike, IsStart}
+use Rattle.c_tree.proofs.Variants.{actions_are, leaves_are, types_are, ends_are, strays_are, recounts_are}
+use Rattle.c_tree.proofs.Lists.{names_differ, in_none, first_in, second_in, in_same, of_one}
 use Rattle.c_tree.proofs.Small.{proto_of, word, function_with, inline_with, start_with, signed, unsigned, named, give, bare_call, set, file_with, start_alone, member_of, struct_alone}
 
 -- What is broken where -----------------------------------------------------------------------------------------------
@@ -175,6 +175,26 @@ undeclared_write =
     in_alone 11 (start_with (writing ∷ [])) refl
     (inr (inl (refl, inr (Assigns (Name (codes "a")) (signed 0), codes "a", only_action writing (Assigns (Name (codes "a")) (signed 0)) (simp actions_are), inl refl, refl))))
 
+-- `a = sl_get();`
+abbrev getting : CStmt
+getting = Get (Name (codes "a"))
+
+-- nor is one in which a byte of the input is stored
+pub undeclared_get : Breaks (alone (start_with (getting ∷ []))) 11 20
+undeclared_get =
+    in_alone 11 (start_with (getting ∷ [])) refl
+    (inr (inl (refl, inr (Gets (Name (codes "a")), codes "a", only_action getting (Gets (Name (codes "a"))) (simp actions_are), refl, refl))))
+
+-- `for (a = INT64_C(0); a < 2; a++) { }`
+abbrev idling : CStmt
+idling = Count (codes "a") (codes "a") 2 (codes "a") []
+
+-- nor is the one that counts
+pub undeclared_counter : Breaks (alone (start_with (idling ∷ []))) 11 20
+undeclared_counter =
+    in_alone 11 (start_with (idling ∷ [])) refl
+    (inr (inl (refl, inr (Counts (codes "a") (codes "a") (codes "a") 2, codes "a", only_action idling (Counts (codes "a") (codes "a") (codes "a") 2) (simp actions_are), inl refl, refl))))
+
 -- 13 -----------------------------------------------------------------------------------------------------------------
 
 -- an array without an element
@@ -270,6 +290,24 @@ unsigned_assigned =
       ),
     )))))
 
+-- `a = sl_get();`, where `a` has this type
+abbrev getting_into : CType → CFun
+getting_into kind = record (start_with (getting ∷ [])) { vars = record { name = codes "a"; kind = kind } ∷ [] }
+
+-- breaks it where `a` has a type other than `int64_t`
+got_elsewhere : (kind : CType) → kind ≢ Int true 64 → Breaks (alone (getting_into kind)) 15 20
+got_elsewhere kind other =
+    in_alone 15 (getting_into kind) refl
+    (inr (inr (inr (inl (refl, (Gets (Name (codes "a")), only_action getting (Gets (Name (codes "a"))) (simp actions_are), (kind, refl, other)))))))
+
+-- as `uint64_t`
+pub unsigned_got : Breaks (alone (getting_into (Int false 64))) 15 20
+unsigned_got = got_elsewhere (Int false 64) (λ same. cc)
+
+-- and `uint8_t`
+pub byte_got : Breaks (alone (getting_into (Int false 8))) 15 20
+byte_got = got_elsewhere (Int false 8) (λ same. cc)
+
 -- 16 -----------------------------------------------------------------------------------------------------------------
 
 -- a function `f` with a parameter of 64 bits with a sign calls itself
@@ -350,7 +388,7 @@ inline_calls_itself =
     in_alone 19 inline_self refl
     (inr (inr (inr (inr (inr (inr (inr (inl (
       refl,
-      (refl, (codes "f", in_same inline_self_calls (first_in (codes "f") []), λ callee before inline named. in_none callee before)),
+      (refl, inr (codes "f", in_same inline_self_calls (first_in (codes "f") []), λ callee before inline named. in_none callee before)),
     )))))))))
 
 -- an inline function that calls one before it that isn't inline
@@ -382,7 +420,7 @@ inline_calls_other =
         refl,
         (
           refl,
-          (
+          inr (
             codes "g",
             in_same inline_caller_calls (first_in (codes "g") []),
             λ callee before inline named. of_one (λ function. function.inline ≢ true) earlier callee (λ same. cc) before inline,
@@ -391,11 +429,116 @@ inline_calls_other =
       )))))))),
     )
 
+-- an inline function that holds `while (1) { }`
+abbrev inline_loop : CFun
+inline_loop = inline_with (codes "f") Void (Loop [] ∷ [])
+
+-- breaks 19 on its line
+pub inline_loops : Breaks (alone inline_loop) 19 20
+inline_loops =
+    in_alone 19 inline_loop refl
+    (inr (inr (inr (inr (inr (inr (inr (inl (refl, (refl, inl (only_action (Loop []) Loops (simp actions_are))))))))))))
+
+-- one that holds it in the block of an `if` and of a `for`
+abbrev nested_loop : CStmt
+nested_loop = If (signed 1) (Count (codes "a") (codes "a") 2 (codes "a") (Loop [] ∷ []) ∷ []) None
+
+-- with its variable
+abbrev inline_nested : CFun
+inline_nested = record (inline_with (codes "f") Void (nested_loop ∷ [])) { vars = word (codes "a") ∷ [] }
+
+-- its actions
+nested_actions : actions_in inline_nested.body ≡ Tests (signed 1) ∷ Counts (codes "a") (codes "a") (codes "a") 2 ∷ Loops ∷ []
+nested_actions = simp actions_are
+
+-- breaks it too
+pub inline_loops_inside : Breaks (alone inline_nested) 19 20
+inline_loops_inside = in_alone 19 inline_nested refl (inr (inr (inr (inr (inr (inr (inr (inl (refl, (refl, inl (in_same nested_actions (2, omega arith, refl))))))))))))
+
+-- 20 -----------------------------------------------------------------------------------------------------------------
+
+-- a function with these statements, with the variables `a` and `b` of 64 bits with a sign and `c` of 64 bits without one
+abbrev with_counters : List CStmt → CFun
+with_counters body = record (function_with (codes "f") Void body) { vars = word (codes "a") ∷ word (codes "b") ∷ record { name = codes "c"; kind = Int false 64 } ∷ [] }
+
+-- a `for` with these names and this count
+abbrev counting : List ℕ → List ℕ → List ℕ → ℕ → CStmt
+counting set tested raised count = Count set tested count raised []
+
+-- its file, with a global `g` of 64 bits with a sign
+abbrev counting_file : List CStmt → CFile
+counting_file body = record (alone (with_counters body)) { globals = word (codes "g") ∷ [] }
+
+-- breaks 20 on the line of the function, where it counts too far, or its names aren't one, or not that of a variable that can count
+miscounted : (set tested raised : List ℕ) (count : ℕ) → (2 ^ 24 < count) ⊎ (tested ≢ set) ⊎ (raised ≢ set) ⊎ (¬ CanCount (with_counters (counting set tested raised count ∷ [])) set)
+    → Breaks (counting_file (counting set tested raised count ∷ [])) 20 20
+miscounted set tested raised count wrong =
+    in_first (counting_file (counting set tested raised count ∷ [])) 20 (with_counters (counting set tested raised count ∷ [])) [] refl
+    (inr (inr (inr (inr (inr (inr (inr (inr (inl (refl, inl (set, tested, raised, count, only_action (counting set tested raised count) (Counts set tested raised count) (simp actions_are), wrong)))))))))))
+
+-- a count that is one more than 2 ^ 24
+pub far_count : Breaks (counting_file (counting (codes "a") (codes "a") (codes "a") (2 ^ 24 + 1) ∷ [])) 20 20
+far_count = miscounted (codes "a") (codes "a") (codes "a") (2 ^ 24 + 1) (inl (omega arith))
+
+-- another name is tested
+pub other_tested : Breaks (counting_file (counting (codes "a") (codes "b") (codes "a") 2 ∷ [])) 20 20
+other_tested = miscounted (codes "a") (codes "b") (codes "a") 2 (inr (inl (names_differ (codes "b") (codes "a") refl)))
+
+-- another name is raised
+pub other_raised : Breaks (counting_file (counting (codes "a") (codes "a") (codes "b") 2 ∷ [])) 20 20
+other_raised = miscounted (codes "a") (codes "a") (codes "b") 2 (inr (inr (inl (names_differ (codes "b") (codes "a") refl))))
+
+-- the variable has no sign
+pub unsigned_counter : Breaks (counting_file (counting (codes "c") (codes "c") (codes "c") 2 ∷ [])) 20 20
+unsigned_counter = miscounted (codes "c") (codes "c") (codes "c") 2 (inr (inr (inr (λ same. cc))))
+
+-- the variable is a global
+pub global_counter : Breaks (counting_file (counting (codes "g") (codes "g") (codes "g") 2 ∷ [])) 20 20
+global_counter = miscounted (codes "g") (codes "g") (codes "g") 2 (inr (inr (inr (λ same. cc))))
+
+-- `for (a = INT64_C(0); a < 2; a++) { .. }`
+abbrev around : List CStmt → CStmt
+around body = Count (codes "a") (codes "a") 2 (codes "a") body
+
+-- breaks 20 on the line of the function, where something in its block stores in its variable
+recounted : (body : List CStmt) → list_any (λ s. recounts s []) (around body ∷ []) ≡ true → Breaks (counting_file (around body ∷ [])) 20 20
+recounted body stores =
+    in_first (counting_file (around body ∷ [])) 20 (with_counters (around body ∷ [])) [] refl
+    (inr (inr (inr (inr (inr (inr (inr (inr (inl (refl, inr stores))))))))))
+
+-- an assignment
+pub counter_assigned : Breaks (counting_file (around (set (codes "a") (signed 0) ∷ []) ∷ [])) 20 20
+counter_assigned = recounted (set (codes "a") (signed 0) ∷ []) (simp recounts_are)
+
+-- the result of a call
+pub counter_taken : Breaks (counting_file (around (Call (Some (Name (codes "a"))) (codes "f") [] ∷ []) ∷ [])) 20 20
+counter_taken = recounted (Call (Some (Name (codes "a"))) (codes "f") [] ∷ []) (simp recounts_are)
+
+-- a byte of the input
+pub counter_got : Breaks (counting_file (around (getting ∷ []) ∷ [])) 20 20
+counter_got = recounted (getting ∷ []) (simp recounts_are)
+
+-- another `for`
+pub counter_counted : Breaks (counting_file (around (around [] ∷ []) ∷ [])) 20 20
+counter_counted = recounted (around [] ∷ []) (simp recounts_are)
+
+-- an assignment that stands deeper: `while (1) { for (b = ..) { if (INT64_C(1)) { } else { a = INT64_C(0); } } }`
+abbrev deep : CStmt
+deep = Loop (Count (codes "b") (codes "b") 2 (codes "b") (If (signed 1) [] (Some (set (codes "a") (signed 0) ∷ [])) ∷ []) ∷ [])
+
+-- breaks it too
+pub counter_assigned_inside : Breaks (counting_file (around (deep ∷ []) ∷ [])) 20 20
+counter_assigned_inside = recounted (deep ∷ []) (simp recounts_are)
+
+-- but what stands behind the loop may store in its variable, and what stands in it in others
+pub behind_the_loop : list_any (λ s. recounts s []) (around (set (codes "b") (signed 0) ∷ []) ∷ set (codes "a") (signed 0) ∷ around [] ∷ []) ≡ false
+behind_the_loop = simp recounts_are
+
 -- 21 -----------------------------------------------------------------------------------------------------------------
 
 -- `sl_main` has no statement
 pub no_return : Breaks (alone (start_with [])) 21 20
-no_return = in_alone 21 (start_with []) refl (inr (inr (inr (inr (inr (inr (inr (inr (refl, (λ same. cc, refl))))))))))
+no_return = in_alone 21 (start_with []) refl (inr (inr (inr (inr (inr (inr (inr (inr (inr (refl, inr (λ same. cc, refl)))))))))))
 
 -- `if (INT64_C(1)) { return INT64_C(0); }`
 abbrev sometimes : CStmt
@@ -403,7 +546,27 @@ sometimes = If (signed 1) (give 0 ∷ []) None
 
 -- it ends with an `if` without `else`
 pub return_in_if : Breaks (alone (start_with (sometimes ∷ []))) 21 20
-return_in_if = in_alone 21 (start_with (sometimes ∷ [])) refl (inr (inr (inr (inr (inr (inr (inr (inr (refl, (λ same. cc, simp ends_are))))))))))
+return_in_if = in_alone 21 (start_with (sometimes ∷ [])) refl (inr (inr (inr (inr (inr (inr (inr (inr (inr (refl, inr (λ same. cc, simp ends_are)))))))))))
+
+-- a function with these statements, whose `break` stands in no loop
+strayed : (body : List CStmt) → some_are (map strays body) ≡ true → Breaks (alone (function_with (codes "f") Void body)) 21 20
+strayed body stray = in_alone 21 (function_with (codes "f") Void body) refl (inr (inr (inr (inr (inr (inr (inr (inr (inr (refl, inl stray))))))))))
+
+-- a `break` by itself
+pub break_alone : Breaks (alone (function_with (codes "f") Void (Break ∷ []))) 21 20
+break_alone = strayed (Break ∷ []) (simp strays_are)
+
+-- one in the `else` of an `if`
+pub break_in_else : Breaks (alone (function_with (codes "f") Void (If (signed 1) [] (Some (Break ∷ [])) ∷ []))) 21 20
+break_in_else = strayed (If (signed 1) [] (Some (Break ∷ [])) ∷ []) (simp strays_are)
+
+-- one behind a loop
+pub break_behind_loop : Breaks (alone (function_with (codes "f") Void (Loop (Break ∷ []) ∷ Break ∷ []))) 21 20
+break_behind_loop = strayed (Loop (Break ∷ []) ∷ Break ∷ []) (simp strays_are)
+
+-- `sl_main` ends with a loop, behind which no return stands
+pub loop_at_end : Breaks (alone (start_with (Loop [] ∷ []))) 21 20
+loop_at_end = in_alone 21 (start_with (Loop [] ∷ [])) refl (inr (inr (inr (inr (inr (inr (inr (inr (inr (refl, inr (λ same. cc, simp ends_are)))))))))))
 
 -- 22 -----------------------------------------------------------------------------------------------------------------
 

@@ -2,19 +2,20 @@
 use Rattle.std.proofs.Common.{◌≡◌, ℕ, List, Bool, Some, None, ap}
 use Rattle.std.specs.Prelude.{pos, not}
 use Rattle.sl_num.specs.declared.comparing.Comparison.{Comparison}
-use Rattle.sl_run.specs.Run.{Trace, Over, Went, pure, ◌>>=◌, ◌>>◌, choose}
+use Rattle.sl_run.specs.Run.{Trace, Over, Went, pure, ◌>>=◌, ◌>>◌, choose, get, loop}
 use Rattle.sl_run.specs.Run as run
 use Rattle.c_tree.specs.declared.tree.CArg.{CArg}
 use Rattle.c_tree.specs.declared.tree.CBinary.{CBinary}
 use Rattle.c_tree.specs.declared.tree.CExpr.{CExpr}
 use Rattle.c_tree.specs.declared.tree.CExpr.TheVariants.{Const, Read, Binary, Compare, Negate}
 use Rattle.c_tree.specs.declared.tree.CPlace.{CPlace}
+use Rattle.c_tree.specs.declared.tree.CPlace.TheVariants.{Name}
 use Rattle.c_tree.specs.declared.tree.CStmt.{CStmt}
-use Rattle.c_tree.specs.declared.tree.CStmt.TheVariants.{Assign, Call, If, Return, Put, Halt}
+use Rattle.c_tree.specs.declared.tree.CStmt.TheVariants.{Assign, Call, If, Loop, Count, Break, Return, Put, Get, Halt}
 use Rattle.c_tree.specs.Scope.{Scope}
 use Rattle.c_tree.specs.Memory.{Memory}
-use Rattle.c_tree.specs.Meaning.{Next, Returned, Callees, located, write_number, is_zero, binary, compared, negated, read_word, evaluate, arguments, put_value, store_result, meaning, block}
-use Rattle.c_tree.proofs.Equations.{const_is, read_is, binary_is, compare_is, negate_is, assign_is, call_is, call_to_is, if_is, if_else_is, return_is, return_none_is, put_is, halt_is}
+use Rattle.c_tree.specs.Meaning.{Next, Broke, Returned, Callees, located, write_number, is_zero, binary, compared, negated, read_word, evaluate, arguments, after_round, rounds, gotten, put_value, store_result, meaning, block}
+use Rattle.c_tree.proofs.Equations.{const_is, read_is, binary_is, compare_is, negate_is, assign_is, call_is, call_to_is, if_is, if_else_is, while_is, count_is, break_is, return_is, return_none_is, put_is, get_is, halt_is}
 
 module _ (scope : Scope) where
   -- a constant
@@ -58,6 +59,18 @@ module _ (scope : Scope) where
     pub if_else_runs : (test : CExpr) (chosen other : List CStmt) (t : Trace) (memory : Memory) → meaning scope (If test chosen (Some other)) call t memory ≡ (evaluate scope test >>= (λ x. choose (not (is_zero x.number)) (block scope chosen call) (block scope other call))) t memory
     if_else_runs test chosen other t memory = ap (λ a. a t memory) (if_else_is scope call test chosen other)
 
+    -- a loop
+    pub loop_runs : (body : List CStmt) (t : Trace) (memory : Memory) → meaning scope (Loop body) call t memory ≡ loop (block scope body call >>= (λ flow. pure (after_round flow))) t memory
+    loop_runs body t memory = ap (λ a. a t memory) (while_is scope call body)
+
+    -- a counted loop
+    pub count_runs : (set tested : List ℕ) (count : ℕ) (raised : List ℕ) (body : List CStmt) (t : Trace) (memory : Memory) → meaning scope (Count set tested count raised body) call t memory ≡ (located scope (Name set) >>= (λ pointer. rounds pointer (block scope body call) 0 count)) t memory
+    count_runs set tested count raised body t memory = ap (λ a. a t memory) (count_is scope call set tested count raised body)
+
+    -- a `break`
+    pub break_runs : (t : Trace) (memory : Memory) → meaning scope Break call t memory ≡ Went Broke t memory
+    break_runs t memory = ap (λ a. a t memory) (break_is scope call)
+
     -- a return with a value
     pub return_runs : (e : CExpr) (t : Trace) (memory : Memory) → meaning scope (Return (Some e)) call t memory ≡ (evaluate scope e >>= (λ x. pure (Returned (Some x.number)))) t memory
     return_runs e t memory = ap (λ a. a t memory) (return_is scope call e)
@@ -70,9 +83,13 @@ module _ (scope : Scope) where
     pub put_runs : (e : CExpr) (t : Trace) (memory : Memory) → meaning scope (Put e) call t memory ≡ (evaluate scope e >>= (λ x. put_value x.number)) t memory
     put_runs e t memory = ap (λ a. a t memory) (put_is scope call e)
 
+    -- a byte of the input
+    pub get_runs : (place : CPlace) (t : Trace) (memory : Memory) → meaning scope (Get place) call t memory ≡ (located scope place >>= (λ pointer. get >>= (λ byte. write_number pointer (gotten byte))) >> pure Next) t memory
+    get_runs place t memory = ap (λ a. a t memory) (get_is scope call place)
+
     -- a halt
     pub halt_runs : (kind file line : ℕ) (t : Trace) (memory : Memory) → meaning scope (Halt kind file line) call t memory ≡ Over (run.Halt kind file line) t
     halt_runs kind file line t memory = ap (λ a. a t memory) (halt_is scope call kind file line)
 
 -- all of them
-pub ruleset running = (const_runs, read_runs, binary_runs, compare_runs, negate_runs, assign_runs, call_runs, call_to_runs, if_runs, if_else_runs, return_runs, return_none_runs, put_runs, halt_runs)
+pub ruleset running = (const_runs, read_runs, binary_runs, compare_runs, negate_runs, assign_runs, call_runs, call_to_runs, if_runs, if_else_runs, loop_runs, count_runs, break_runs, return_runs, return_none_runs, put_runs, get_runs, halt_runs)

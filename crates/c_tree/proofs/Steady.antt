@@ -1,12 +1,13 @@
 -- What the C of a tree does agrees where what its calls do agrees.
-use Rattle.std.proofs.Common.{ℕ, ℤ, List, [], ◌∷◌, Bool, Option, Some, None, refl, subst, sym, map}
+use Rattle.std.proofs.Common.{ℕ, zero, suc, ◌+◌, ℤ, List, [], ◌∷◌, Bool, Option, Some, None, refl, subst, sym, map}
 use Rattle.std.specs.Prelude.{true, pos, negsuc, neg_ℤ, nat_le, int_div, int_rem, reverse, slice_get, not, ◌&&◌}
 use Rattle.std.specs.Str.{bytes_eq}
 use Rattle.sl_num.specs.declared.comparing.Comparison.{Comparison}
 use Rattle.sl_num.specs.Comparing.{holds}
-use Rattle.sl_run.specs.Run.{Act, pure, ◌>>=◌, ◌>>◌, choose, put}
-use Rattle.sl_run.specs.Laws.{Agrees, Respects}
-use Rattle.sl_run.proofs.Steady.{bind_agrees, pure_agrees, put_agrees, choose_agrees}
+use Rattle.sl_run.specs.Run.{Act, pure, ◌>>=◌, ◌>>◌, choose, put, get, round_then, calls}
+use Rattle.sl_run.specs.Laws.{Agrees, Steady, Respects}
+use Rattle.sl_run.proofs.Steady.{bind_agrees, pure_agrees, put_agrees, get_agrees, choose_agrees, round_then_agrees, loop_agrees, calls_steady}
+use Rattle.sl_run.proofs.Equations.{takes_steady, turn_within_by_takes}
 use Rattle.c_tree.specs.declared.tree.CFile.{CFile}
 use Rattle.c_tree.specs.declared.tree.CType.{CType}
 use Rattle.c_tree.specs.declared.tree.CType.TheVariants.{Int, Void}
@@ -14,6 +15,7 @@ use Rattle.c_tree.specs.declared.tree.CFun.{CFun}
 use Rattle.c_tree.specs.declared.tree.CArg.{CArg}
 use Rattle.c_tree.specs.declared.tree.CArg.TheVariants.{Value}
 use Rattle.c_tree.specs.declared.tree.CPlace.{CPlace}
+use Rattle.c_tree.specs.declared.tree.CPlace.TheVariants.{Name}
 use Rattle.c_tree.specs.declared.tree.CBinary.{CBinary}
 use Rattle.c_tree.specs.declared.tree.CBinary.TheVariants.{Add, Sub, Mul, Div, Rem}
 use Rattle.c_tree.specs.declared.tree.CStmt.{CStmt, CStmt-F, ind-CStmt, map-CStmt, roll-CStmt}
@@ -22,8 +24,8 @@ use Rattle.c_tree.specs.declared.tree.CExpr.{CExpr, CExpr-F, ind-CExpr, map-CExp
 use Rattle.c_tree.specs.declared.tree.CExpr.TheOpen as expr
 use Rattle.c_tree.specs.Bytes.{charge}
 use Rattle.c_tree.specs.Scope.{Scope, scope_of}
-use Rattle.c_tree.specs.Memory.{Pointer, Tree, Number, Memory, held}
-use Rattle.c_tree.specs.Meaning.{Flow, Next, Returned, Callees, stuck, with_some, place_of, located, number_in, read_number, write_number, is_zero, same, Word, exact, divides, is_int64, int64, uint64, int64_of, binary_at, binary, truth, compared, negated, place_is_signed, read_word, expr_step, evaluate, arguments, Meaning, then_on, put_value, store_result, call_to, returned, stmt_step, meaning, block, given, begin, leave, body, begin_inline, inline_callees, number_of, numbered_call, callees, functions}
+use Rattle.c_tree.specs.Memory.{Pointer, Tree, Number, Memory, live, held}
+use Rattle.c_tree.specs.Meaning.{Flow, Next, Broke, Returned, Callees, stuck, with_some, place_of, located, number_in, read_number, write_number, is_zero, same, Word, exact, divides, is_int64, int64, uint64, int64_of, binary_at, binary, truth, compared, negated, place_is_signed, read_word, expr_step, evaluate, arguments, Meaning, then_on, after_round, rounds, gotten, put_value, store_result, call_to, returned, stmt_step, meaning, block, given, begin, leave, body, begin_inline, inline_callees, number_of, numbered_call, callees, functions, charge_of, enter, run_callees}
 use Rattle.c_tree.proofs.Layers.{evaluate_layer, meaning_layer}
 
 -- what two ways of calling functions have in common
@@ -108,6 +110,7 @@ module _ (n : ℕ) where
   -- what comes after a statement
   then_on_agrees : (go go' : Act Memory Flow) (flow : Flow) → Agrees n go go' → Agrees n (then_on go flow) (then_on go' flow)
   then_on_agrees go go' Next h = h
+  then_on_agrees go go' Broke h = pure_agrees n Broke
   then_on_agrees go go' (Returned value) h = pure_agrees n (Returned value)
 
   -- a number that is put
@@ -126,9 +129,25 @@ module _ (n : ℕ) where
   and_next : {A : Type 0} (a b : Act Memory A) → Agrees n a b → Agrees n (a >> pure Next) (b >> pure Next)
   and_next a b h = bind_agrees n a b (λ _. pure Next) (λ _. pure Next) h (λ _. pure_agrees n Next)
 
+  -- how a loop is left after a round
+  round_agrees : (body body' : Act Memory Flow) → Agrees n body body' → Agrees n (body >>= (λ flow. pure (after_round flow))) (body' >>= (λ flow. pure (after_round flow)))
+  round_agrees body body' h = bind_agrees n body body' (λ flow. pure (after_round flow)) (λ flow. pure (after_round flow)) h (λ flow. pure_agrees n (after_round flow))
+
+  -- the rounds of a counted loop
+  pub rounds_agree : (pointer : Pointer) (body body' : Act Memory Flow) → Agrees n body body' → (from count : ℕ) → Agrees n (rounds pointer body from count) (rounds pointer body' from count)
+  rounds_agree pointer body body' h from zero = and_next (write_number pointer (pos from)) (write_number pointer (pos from)) (write_number_agrees pointer (pos from))
+  rounds_agree pointer body body' h from (suc count) =
+      let rest : Act Memory Flow = rounds pointer body (suc from) count in
+      let rest' : Act Memory Flow = rounds pointer body' (suc from) count in
+      bind_agrees n (write_number pointer (pos from)) (write_number pointer (pos from)) (λ _. body >>= (λ flow. round_then (after_round flow) rest)) (λ _. body' >>= (λ flow. round_then (after_round flow) rest'))
+      (write_number_agrees pointer (pos from))
+      (λ _. bind_agrees n body body' (λ flow. round_then (after_round flow) rest) (λ flow. round_then (after_round flow) rest') h
+      (λ flow. round_then_agrees n (after_round flow) rest rest' (rounds_agree pointer body body' h (suc from) count)))
+
   -- what a function gives
   given_agrees : (kind : CType) (flow : Flow) → Agrees n (given kind flow) (given kind flow)
   given_agrees kind (Returned value) t s le = (refl, le)
+  given_agrees kind Broke t s le = (refl, le)
   given_agrees Void Next t s le = (refl, le)
   given_agrees (Int signed width) Next t s le = (refl, le)
 
@@ -184,6 +203,19 @@ module _ (n : ℕ) where
         let stored : Pointer → Act Memory (Unit {0}) = λ pointer. evaluate scope e >>= (λ x. write_number pointer x.number) in
         bind_agrees n (located scope place) (located scope place) stored stored (located_agrees scope place)
         (λ pointer. bind_agrees n (evaluate scope e) (evaluate scope e) (λ x. write_number pointer x.number) (λ x. write_number pointer x.number) (evaluate_agrees e) (λ x. write_number_agrees pointer x.number))
+
+    -- a byte of the input that is stored
+    get_to_agrees : (place : CPlace) → Agrees n (located scope place >>= (λ pointer. get >>= (λ byte. write_number pointer (gotten byte)))) (located scope place >>= (λ pointer. get >>= (λ byte. write_number pointer (gotten byte))))
+    get_to_agrees place =
+        let stored : Pointer → Act Memory (Unit {0}) = λ pointer. get >>= (λ byte. write_number pointer (gotten byte)) in
+        bind_agrees n (located scope place) (located scope place) stored stored (located_agrees scope place)
+        (λ pointer. bind_agrees n get get (λ byte. write_number pointer (gotten byte)) (λ byte. write_number pointer (gotten byte)) (get_agrees n) (λ byte. write_number_agrees pointer (gotten byte)))
+
+    -- a counted loop
+    count_agrees : (set : List ℕ) (count : ℕ) (body body' : Act Memory Flow) → Agrees n body body' → Agrees n (located scope (Name set) >>= (λ pointer. rounds pointer body 0 count)) (located scope (Name set) >>= (λ pointer. rounds pointer body' 0 count))
+    count_agrees set count body body' h =
+        bind_agrees n (located scope (Name set)) (located scope (Name set)) (λ pointer. rounds pointer body 0 count) (λ pointer. rounds pointer body' 0 count) (located_agrees scope (Name set))
+        (λ pointer. rounds_agree pointer body body' h 0 count)
 
     -- the arguments of a call, and the call
     called_agrees : (name : List ℕ) (args : List CArg) (call call' : Callees) → AgreeingCalls n call call' → Agrees n (arguments scope args >>= call name) (arguments scope args >>= call' name)
@@ -246,10 +278,22 @@ module _ (n : ℕ) where
             (λ call call' h.
             if_agrees test (block scope (map only chosen) call) (block scope (map only other) call) (block scope (map only chosen) call') (block scope (map only other) call')
             (in_order_known chosen call call' h) (in_order_known other call call' h))
+        layer (stmt.Loop body) =
+            let blocks : Meaning = block scope (map only body) in
+            via (stmt.Loop (map only body))
+            (λ call call' h.
+            loop_agrees n (blocks call >>= (λ flow. pure (after_round flow))) (blocks call' >>= (λ flow. pure (after_round flow))) (round_agrees (blocks call) (blocks call') (in_order_known body call call' h)))
+        layer (stmt.Count set tested count raised body) =
+            via (stmt.Count set tested count raised (map only body))
+            (λ call call' h. count_agrees set count (block scope (map only body) call) (block scope (map only body) call') (in_order_known body call call' h))
+        layer stmt.Break = via stmt.Break (λ call call' h. pure_agrees n Broke)
         layer (stmt.Return value) = via (stmt.Return value) (λ call call' h. returned_agrees value)
         layer (stmt.Put e) =
             via (stmt.Put e)
             (λ call call' h. bind_agrees n (evaluate scope e) (evaluate scope e) (λ x. put_value x.number) (λ x. put_value x.number) (evaluate_agrees e) (λ x. put_value_agrees x.number))
+        layer (stmt.Get place) =
+            let stored : Act Memory (Unit {0}) = located scope place >>= (λ pointer. get >>= (λ byte. write_number pointer (gotten byte))) in
+            via (stmt.Get place) (λ call call' h. and_next stored stored (get_to_agrees place))
         layer (stmt.Halt kind file line) = via (stmt.Halt kind file line) (λ call call' h t s le. (refl, le))
 
     -- statements in order
@@ -302,3 +346,17 @@ functions_respect file n call call' h number args =
     (λ function. begin number (charge file function) function args >> body file function (callees file call))
     (λ function. begin number (charge file function) function args >> body file function (callees file call'))
     (function_agrees n file call call' h number args)
+
+-- statements in order give no turn back where calls give none back
+pub block_steady : (scope : Scope) (stmts : List CStmt) (call : Callees) → ((name : List ℕ) (args : List Tree) → Steady (call name args)) → Steady (block scope stmts call)
+block_steady scope stmts call h n = block_agrees n scope stmts call call (λ name args. h name args n)
+
+-- calls in a run give no turn back
+pub run_callees_steady : (file : CFile) (limit : Option ℕ) (name : List ℕ) (args : List Tree) → Steady (run_callees file limit name args)
+run_callees_steady file limit name args n =
+    let called : ℕ → List Tree → Act Memory (Option ℤ) = calls (enter file limit) (functions file) in
+    callees_agree n file called called
+    (λ number args. calls_steady (enter file limit) (functions file)
+    (λ number args. takes_steady (enter file limit number args) (turn_within_by_takes limit (λ memory. live memory + charge_of file (slice_get file.functions number))))
+    (functions_respect file) number args n)
+    name args

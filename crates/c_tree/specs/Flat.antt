@@ -9,7 +9,10 @@
 --   params    = void  |  type NAME {, type NAME}
 --   statement = place = expression ;  |  [place =] NAME ( [expression {, expression}] ) ;
 --             |  if ( expression ) { {statement} } [else { {statement} }]
---             |  return [expression] ;  |  sl_put ( expression ) ;  |  sl_halt ( NUMBER , NUMBER , NUMBER ) ;
+--             |  while ( 1 ) { {statement} }  |  break ;
+--             |  for ( NAME = INT64_C ( 0 ) ; NAME < NUMBER ; NAME ++ ) { {statement} }
+--             |  return [expression] ;  |  sl_put ( expression ) ;  |  place = sl_get ( ) ;
+--             |  sl_halt ( NUMBER , NUMBER , NUMBER ) ;
 --   place     = NAME
 --   expression = INT64_C ( NUMBER )  |  UINT64_C ( NUMBER )  |  place  |  ( expression operator expression )  |  ( - expression )
 --             |  ( int64_t ) ( expression comparison expression )
@@ -166,8 +169,16 @@ abbrev pub flat_stmt_step : CStmt-F (List Lexeme) → List Lexeme
 flat_stmt_step (stmt.Assign place e) = flat_place place ++ lexemes (codes "=" ∷ []) ++ flat_expr e ++ lexemes (codes ";" ∷ [])
 flat_stmt_step (stmt.Call target name arguments) = flat_target target ++ lexemes (name ∷ codes "(" ∷ []) ++ flat_arguments arguments ++ lexemes (codes ")" ∷ codes ";" ∷ [])
 flat_stmt_step (stmt.If test chosen other) = lexemes (codes "if" ∷ codes "(" ∷ []) ++ flat_expr test ++ lexemes (codes ")" ∷ []) ++ flat_block chosen ++ flat_else other
+flat_stmt_step (stmt.Loop body) = lexemes (codes "while" ∷ codes "(" ∷ codes "1" ∷ codes ")" ∷ []) ++ flat_block body
+flat_stmt_step (stmt.Count set tested count raised body) =
+    lexemes
+    (codes "for" ∷ codes "(" ∷ set ∷ codes "=" ∷ codes "INT64_C" ∷ codes "(" ∷ codes "0" ∷ codes ")" ∷ codes ";"
+    ∷ tested ∷ codes "<" ∷ decimal count ∷ codes ";" ∷ raised ∷ codes "++" ∷ codes ")" ∷ [])
+    ++ flat_block body
+flat_stmt_step stmt.Break = lexemes (codes "break" ∷ codes ";" ∷ [])
 flat_stmt_step (stmt.Return value) = lexemes (codes "return" ∷ []) ++ flat_returned value ++ lexemes (codes ";" ∷ [])
 flat_stmt_step (stmt.Put e) = lexemes (codes "sl_put" ∷ codes "(" ∷ []) ++ flat_expr e ++ lexemes (codes ")" ∷ codes ";" ∷ [])
+flat_stmt_step (stmt.Get place) = flat_place place ++ lexemes (codes "=" ∷ codes "sl_get" ∷ codes "(" ∷ codes ")" ∷ codes ";" ∷ [])
 flat_stmt_step (stmt.Halt kind file line) =
     lexemes (codes "sl_halt" ∷ codes "(" ∷ decimal kind ∷ codes "," ∷ decimal file ∷ codes "," ∷ decimal line ∷ codes ")" ∷ codes ";" ∷ [])
 

@@ -1,13 +1,13 @@
 -- What a C program does, as a run (ISO C11, as far as the subset goes). An undefined case ends the run with Stuck and the number
 -- of the function in whose frame, or above whose frame in an inline function, it is met. Functions are numbered from 0 in the
 -- order of the file.
-use Rattle.std.specs.Prelude.{ℕ, ◌+◌, ◌^◌, ◌-◌, ℤ, pos, negsuc, ◌+ℤ◌, ◌-ℤ◌, ◌*ℤ◌, neg_ℤ, int_div, int_rem, int_le, nat_abs, ◌==◌, List, [], ◌∷◌, ◌++◌, Bool, true, false, not, ◌&&◌, Option, Some, None, option_map, map, length, replicate, reverse, slice_get, nat_le, codes}
+use Rattle.std.specs.Prelude.{ℕ, zero, suc, ◌+◌, ◌%◌, ◌^◌, ◌-◌, ℤ, pos, negsuc, ◌+ℤ◌, ◌-ℤ◌, ◌*ℤ◌, neg_ℤ, int_div, int_rem, int_le, nat_abs, ◌==◌, List, [], ◌∷◌, ◌++◌, Bool, true, false, not, ◌&&◌, Option, Some, None, option_map, map, length, replicate, reverse, slice_get, nat_le, codes}
 use Rattle.std.specs.Int.{int_rem_euclid}
 use Rattle.std.specs.List.{position}
 use Rattle.std.specs.Str.{bytes_eq}
 use Rattle.sl_num.specs.declared.comparing.Comparison.{Comparison}
 use Rattle.sl_num.specs.Comparing.{holds}
-use Rattle.sl_run.specs.Run.{Stuck, Act, Over, Went, pure, over, ◌>>=◌, ◌>>◌, choose, put, keep_within, turn_within, calls}
+use Rattle.sl_run.specs.Run.{Stuck, Act, Over, Went, pure, over, ◌>>=◌, ◌>>◌, choose, put, get, round_then, loop, keep_within, turn_within, calls}
 use Rattle.sl_run.specs.Run as run
 use Rattle.sl_run.specs.Outcome.{Outcome, whole_run}
 use Rattle.c_tree.specs.declared.tree.CFile.{CFile}
@@ -29,9 +29,10 @@ use Rattle.c_tree.specs.Bytes.{charge}
 use Rattle.c_tree.specs.Scope.{Scope, scope_of, number_named, or_else, variable}
 use Rattle.c_tree.specs.Memory.{Globals, FrameAt, Pointer, Tree, Unwritten, Number, Memory, live, owner_of, with_frame, without_frame, held, with_held, below_last}
 
--- how a statement is left: by the next one, or by a return
+-- how a statement is left: by the next one, by a `break`, or by a return
 pub data Flow : Type 0 where
   Next : Flow
+  Broke : Flow
   Returned : (value : Option ℤ) → Flow
 
 -- what calls of functions by their names do with arguments, and give where they give something
@@ -187,9 +188,10 @@ Meaning = Callees → Act Memory Flow
 -- what comes after a statement that was left so
 abbrev pub then_on : Act Memory Flow → Flow → Act Memory Flow
 then_on go Next = go
+then_on go Broke = pure Broke
 then_on go (Returned value) = pure (Returned value)
 
--- statements in order, up to a return
+-- statements in order, up to a `break` or a return
 abbrev pub in_order : List Meaning → Meaning
 in_order [] call = pure Next
 in_order (m ∷ ms) call = m call >>= then_on (in_order ms call)
@@ -197,6 +199,24 @@ in_order (m ∷ ms) call = m call >>= then_on (in_order ms call)
 abbrev pub in_order_else : Option (List Meaning) → Meaning
 in_order_else None call = pure Next
 in_order_else (Some ms) call = in_order ms call
+
+-- how a loop is left after a round of it that was left so, or nothing where it goes round again
+abbrev pub after_round : Flow → Option Flow
+after_round Next = None
+after_round Broke = Some Next
+after_round (Returned value) = Some (Returned value)
+
+-- The rounds of a counted loop from a count on, so many of them: the count is stored in the variable, and the body goes round once;
+-- after the last of them the count at which the test fails is stored. No round takes a turn. Nothing in the body stores in the
+-- variable (rule 20), so what `++` stores is the next count
+abbrev pub rounds : Pointer → Act Memory Flow → (from count : ℕ) → Act Memory Flow
+rounds pointer body from zero = write_number pointer (pos from) >> pure Next
+rounds pointer body from (suc count) = write_number pointer (pos from) >> (body >>= (λ flow. round_then (after_round flow) (rounds pointer body (suc from) count)))
+
+-- what `sl_get` gives: the byte that was there, as an unsigned char (ISO C11, 7.21.7.1), or -1 at the end of the input
+abbrev pub gotten : Option ℕ → ℤ
+gotten None = negsuc 0
+gotten (Some byte) = pos (byte % 256)
 
 -- `sl_put` puts a number from 0 to 255 as a byte, and is undefined on every other
 abbrev pub put_value : ℤ → Act Memory Flow
@@ -222,8 +242,12 @@ abbrev pub stmt_step : Scope → CStmt-F Meaning → Meaning
 stmt_step scope (stmt.Assign place e) call = located scope place >>= (λ pointer. evaluate scope e >>= (λ x. write_number pointer x.number)) >> pure Next
 stmt_step scope (stmt.Call target name args) call = call_to scope target name args call
 stmt_step scope (stmt.If test chosen other) call = evaluate scope test >>= (λ x. choose (not (is_zero x.number)) (in_order chosen call) (in_order_else other call))
+stmt_step scope (stmt.Loop body) call = loop (in_order body call >>= (λ flow. pure (after_round flow)))
+stmt_step scope (stmt.Count set tested count raised body) call = located scope (Name set) >>= (λ pointer. rounds pointer (in_order body call) 0 count)
+stmt_step scope stmt.Break call = pure Broke
 stmt_step scope (stmt.Return value) call = returned scope value
 stmt_step scope (stmt.Put e) call = evaluate scope e >>= (λ x. put_value x.number)
+stmt_step scope (stmt.Get place) call = located scope place >>= (λ pointer. get >>= (λ byte. write_number pointer (gotten byte))) >> pure Next
 stmt_step scope (stmt.Halt kind file line) call = over (run.Halt kind file line)
 
 unfoldable pub meaning : Scope → CStmt → Meaning
@@ -235,9 +259,10 @@ block scope stmts = in_order (map (meaning scope) stmts)
 
 -- Functions -----------------------------------------------------------------------------------------------------------
 
--- what a function gives whose body was left so. One with a result has to return
+-- what a function gives whose body was left so. One with a result has to return, and a `break` has to stand in a loop
 abbrev pub given : CType → Flow → Act Memory (Option ℤ)
 given kind (Returned value) = pure value
+given kind Broke = stuck
 given Void Next = pure None
 given (Int signed width) Next = stuck
 

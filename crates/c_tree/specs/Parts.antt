@@ -39,6 +39,12 @@ pub data Action : Type 0 where
   Returns : (value : Option CExpr) → Action
   -- a byte is put
   Puts : (value : CExpr) → Action
+  -- the next byte of the input is asked for, and what there is is stored at a place
+  Gets : (place : CPlace) → Action
+  -- a loop `while (1)` goes round
+  Loops : Action
+  -- a loop `for` goes round: the name that is set, that which is tested and that which is raised, and the count
+  Counts : (set tested raised : List ℕ) (count : ℕ) → Action
   -- the run ends in a halt
   Halts : (kind file line : ℕ) → Action
 
@@ -62,8 +68,12 @@ abbrev pub actions_step : CStmt-F (List Action) → List Action
 actions_step (stmt.Assign place e) = Assigns place e ∷ []
 actions_step (stmt.Call target name arguments) = Calls target name (arguments_of arguments) ∷ []
 actions_step (stmt.If test chosen other) = Tests test ∷ joined chosen ++ joined_else other
+actions_step (stmt.Loop body) = Loops ∷ joined body
+actions_step (stmt.Count set tested count raised body) = Counts set tested raised count ∷ joined body
+actions_step stmt.Break = []
 actions_step (stmt.Return value) = Returns value ∷ []
 actions_step (stmt.Put e) = Puts e ∷ []
+actions_step (stmt.Get place) = Gets place ∷ []
 actions_step (stmt.Halt kind file line) = Halts kind file line ∷ []
 
 -- the actions of a statement, and of those in it, in order

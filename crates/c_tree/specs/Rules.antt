@@ -2,11 +2,10 @@
 -- the line of its first token; a rule that is broken elsewhere is broken on the first line behind the prelude. Inside a
 -- function are its result, its parameters, its variables and its statements.
 --
--- The rules 10 to 22 are about trees. Of these 12 and 20 speak of structs used as types and of counted loops, which no tree has
--- yet. The rules 1 to 9 are about bytes: they are kept where there is a tree with that text. A place that isn't declared has no
+-- The rules 10 to 22 are about trees. Of these 12 speaks of structs used as types, which no tree has yet. The rules 1 to 9 are about bytes: they are kept where there is a tree with that text. A place that isn't declared has no
 -- type and fits every operator; rule 11 is told before the rules of types.
 use Rattle.std.specs.Prelude.{◌≡◌, ◌≢◌, ◌⊎◌, ℕ, ◌^◌, ◌<◌, ◌≤◌, List, [], ◌∷◌, ◌++◌, Bool, true, false, not, ◌&&◌, ◌||◌, ◌==◌, Option, Some, None, option_map, Contains, map, codes}
-use Rattle.std.specs.List.{count_by, IsDistinct}
+use Rattle.std.specs.List.{count_by, list_any, IsDistinct}
 use Rattle.std.specs.Str.{bytes_eq}
 use Rattle.c_tree.specs.declared.tree.CFile.{CFile}
 use Rattle.c_tree.specs.declared.tree.CStruct.{CStruct}
@@ -21,9 +20,9 @@ use Rattle.c_tree.specs.declared.tree.CStmt.{CStmt, CStmt-F, fold-CStmt}
 use Rattle.c_tree.specs.declared.tree.CStmt.TheOpen as stmt
 use Rattle.c_tree.specs.declared.tree.CExpr.{CExpr, CExpr-F, fold-CExpr}
 use Rattle.c_tree.specs.declared.tree.CExpr.TheOpen as expr
-use Rattle.c_tree.specs.Parts.{Reads, leaves, Action, Assigns, Calls, Tests, Returns, Puts, Halts, actions_in}
+use Rattle.c_tree.specs.Parts.{Reads, leaves, Action, Assigns, Calls, Tests, Returns, Puts, Gets, Loops, Counts, Halts, actions_in}
 use Rattle.c_tree.specs.Bytes.{called}
-use Rattle.c_tree.specs.Scope.{Scope, scope_of, variable}
+use Rattle.c_tree.specs.Scope.{Scope, scope_of, var_named, variable}
 use Rattle.c_tree.specs.Words.{reserved_words}
 use Rattle.c_tree.specs.Text.{first_line}
 use Rattle.c_tree.specs.Bytes.{struct_extent}
@@ -72,6 +71,9 @@ NamesVariable (Calls target function arguments) name = (target ≡ Some (Name na
 NamesVariable (Tests test) name = NamesRead test name
 NamesVariable (Returns value) name = (e : CExpr) × (value ≡ Some e) × NamesRead e name
 NamesVariable (Puts e) name = NamesRead e name
+NamesVariable (Gets place) name = place ≡ Name name
+NamesVariable Loops name = ⊥
+NamesVariable (Counts set tested raised count) name = (set ≡ name) ⊎ (tested ≡ name) ⊎ (raised ≡ name)
 NamesVariable (Halts kind file line) name = ⊥
 
 -- 11, in a function behind these: a called name isn't declared, or is that of a parameter or a variable of the function, which
@@ -149,6 +151,9 @@ HasExpr (Calls target name arguments) e = Contains arguments e
 HasExpr (Tests test) e = test ≡ e
 HasExpr (Returns value) e = value ≡ Some e
 HasExpr (Puts value) e = value ≡ e
+HasExpr (Gets place) e = ⊥
+HasExpr Loops e = ⊥
+HasExpr (Counts set tested raised count) e = ⊥
 HasExpr (Halts kind file line) e = ⊥
 
 -- 14: operands aren't both `int64_t` or both `uint64_t`, or `-` stands before an operand that isn't an `int64_t`
@@ -160,7 +165,8 @@ BreaksOperands file function =
 abbrev pub HasOtherType : Scope → CExpr → CType → Type 0
 HasOtherType scope e wanted = (other : CType) × ((typed scope e).type ≡ Some other) × (other ≢ wanted)
 
--- an action stores, gives or puts a value of a type that isn't the one that is wanted, or gives none in a function with a result
+-- an action stores, gives or puts a value of a type that isn't the one that is wanted, or gives none in a function with a result.
+-- What is there of the input is an `int64_t`
 abbrev pub HasWrongValue : Scope → CFun → Action → Type 0
 HasWrongValue scope function (Assigns place e) = (kind : CType) × (type_of_place scope place ≡ Some kind) × HasOtherType scope e kind
 HasWrongValue scope function (Calls target name arguments) = ⊥
@@ -168,6 +174,9 @@ HasWrongValue scope function (Tests test) = ⊥
 HasWrongValue scope function (Returns None) = function.result ≢ Void
 HasWrongValue scope function (Returns (Some e)) = HasOtherType scope e function.result
 HasWrongValue scope function (Puts e) = HasOtherType scope e word
+HasWrongValue scope function (Gets place) = (kind : CType) × (type_of_place scope place ≡ Some kind) × (kind ≢ word)
+HasWrongValue scope function Loops = ⊥
+HasWrongValue scope function (Counts set tested raised count) = ⊥
 HasWrongValue scope function (Halts kind file line) = ⊥
 
 -- 15: an assigned, returned or printed value has a wrong type
@@ -204,12 +213,58 @@ BreaksConditions file function =
     (test : CExpr) × (other : CType) × Contains (actions_in function.body) (Tests test)
     × ((typed (scope_of file function) test).type ≡ Some other) × (is_word other ≡ false)
 
--- 19: an inline function behind these calls a function that isn't an inline one of these
+-- 19: an inline function behind these holds `while`, or calls a function that isn't an inline one of these
 abbrev pub BreaksInline : List CFun → CFun → Type 0
 BreaksInline before function =
     (function.inline ≡ true)
-    × ((name : List ℕ) × Contains (called function) name
-    × ((callee : CFun) → Contains before callee → callee.inline ≡ true → callee.name ≢ name))
+    × (Contains (actions_in function.body) Loops
+    ⊎ ((name : List ℕ) × Contains (called function) name
+    × ((callee : CFun) → Contains before callee → callee.inline ≡ true → callee.name ≢ name)))
+
+-- a name is that of a parameter or a variable of the function itself, which is an `int64_t`
+abbrev pub CanCount : CFun → List ℕ → Type 0
+CanCount function name = option_map (λ var. var.kind) (var_named (function.params ++ function.vars) name) ≡ Some word
+
+-- a place is one of these variables
+abbrev pub is_among : List (List ℕ) → CPlace → Bool
+is_among names (Name name) = list_any (bytes_eq name) names
+
+abbrev pub target_among : List (List ℕ) → Option CPlace → Bool
+target_among names None = false
+target_among names (Some place) = is_among names place
+
+-- one of the statements in some blocks does so, with these variables
+abbrev pub any_with : List (List ℕ) → List (List (List ℕ) → Bool) → Bool
+any_with names stmts = list_any (λ does. does names) stmts
+
+abbrev pub any_else : List (List ℕ) → Option (List (List (List ℕ) → Bool)) → Bool
+any_else names None = false
+any_else names (Some stmts) = any_with names stmts
+
+abbrev pub recounts_step : CStmt-F (List (List ℕ) → Bool) → List (List ℕ) → Bool
+recounts_step (stmt.Assign place e) counters = is_among counters place
+recounts_step (stmt.Call target name args) counters = target_among counters target
+recounts_step (stmt.If test chosen other) counters = any_with counters chosen || any_else counters other
+recounts_step (stmt.Loop body) counters = any_with counters body
+recounts_step (stmt.Count set tested count raised body) counters = is_among counters (Name set) || any_with (set ∷ counters) body
+recounts_step stmt.Break counters = false
+recounts_step (stmt.Return value) counters = false
+recounts_step (stmt.Put e) counters = false
+recounts_step (stmt.Get place) counters = is_among counters place
+recounts_step (stmt.Halt kind file line) counters = false
+
+-- whether a statement stores something in the variable of a `for` that stands around what stores it: in one of these variables, those
+-- of the loops around the statement, or in that of a `for` in it. A `for` stores numbers in its own variable
+unfoldable pub recounts : CStmt → List (List ℕ) → Bool
+recounts s counters = fold-CStmt (List (List ℕ) → Bool) recounts_step s counters
+
+-- 20: a `for` counts to more than 2 ^ 24; or its three names aren't one, or not that of an `int64_t` of the function itself; or
+-- something in its body stores in its variable
+abbrev pub BreaksCounts : CFun → Type 0
+BreaksCounts function =
+    ((set : List ℕ) × (tested : List ℕ) × (raised : List ℕ) × (count : ℕ) × Contains (actions_in function.body) (Counts set tested raised count)
+    × ((2 ^ 24 < count) ⊎ (tested ≢ set) ⊎ (raised ≢ set) ⊎ (¬ CanCount function set)))
+    ⊎ (list_any (λ s. recounts s []) function.body ≡ true)
 
 -- whether the last of some is so
 abbrev pub last_is : List Bool → Bool
@@ -227,15 +282,42 @@ ends_step (stmt.Halt kind file line) = true
 ends_step (stmt.If test chosen other) = last_is chosen && last_else other
 ends_step (stmt.Assign place e) = false
 ends_step (stmt.Call target name arguments) = false
+ends_step (stmt.Loop body) = false
+ends_step (stmt.Count set tested count raised body) = false
+ends_step stmt.Break = false
 ends_step (stmt.Put e) = false
+ends_step (stmt.Get place) = false
 
 -- whether nothing comes behind a statement: it is a return or a halt, or an `if` with `else` both of whose blocks end so
 unfoldable pub ends_function : CStmt → Bool
 ends_function s = fold-CStmt Bool ends_step s
 
--- 21: a function with a result can come to its end without a return
+abbrev pub some_are : List Bool → Bool
+some_are truths = list_any (λ so. so) truths
+
+abbrev pub some_else : Option (List Bool) → Bool
+some_else None = false
+some_else (Some truths) = some_are truths
+
+abbrev pub strays_step : CStmt-F Bool → Bool
+strays_step stmt.Break = true
+strays_step (stmt.If test chosen other) = some_are chosen || some_else other
+strays_step (stmt.Loop body) = false
+strays_step (stmt.Count set tested count raised body) = false
+strays_step (stmt.Assign place e) = false
+strays_step (stmt.Call target name arguments) = false
+strays_step (stmt.Return value) = false
+strays_step (stmt.Put e) = false
+strays_step (stmt.Get place) = false
+strays_step (stmt.Halt kind file line) = false
+
+-- whether a `break` stands in a statement, and no loop in the statement stands around it
+unfoldable pub strays : CStmt → Bool
+strays s = fold-CStmt Bool strays_step s
+
+-- 21: a `break` stands outside loops, or a function with a result can come to its end without a return
 abbrev pub BreaksEnd : CFun → Type 0
-BreaksEnd function = (function.result ≢ Void) × (last_is (map ends_function function.body) ≡ false)
+BreaksEnd function = (some_are (map strays function.body) ≡ true) ⊎ ((function.result ≢ Void) × (last_is (map ends_function function.body) ≡ false))
 
 -- a function and its prototype are alike, names of parameters included
 pub record AreAlike (proto function : CFun) : Type 0 where
@@ -269,6 +351,7 @@ BreaksInside file before function rule =
     ⊎ ((rule ≡ 17) × BreaksResults file function)
     ⊎ ((rule ≡ 18) × BreaksConditions file function)
     ⊎ ((rule ≡ 19) × BreaksInline before function)
+    ⊎ ((rule ≡ 20) × BreaksCounts function)
     ⊎ ((rule ≡ 21) × BreaksEnd function)
 
 -- a rule is broken outside functions

@@ -15,7 +15,7 @@ use Rattle.c_tree.specs.declared.tree.CStmt.TheOpen as stmt
 use Rattle.c_tree.specs.declared.tree.CExpr.{CExpr, CExpr-F, fold-CExpr}
 use Rattle.c_tree.specs.declared.tree.CExpr.TheOpen as expr
 use Rattle.c_tree.specs.Words.{IsName}
-use Rattle.c_tree.specs.Parts.{Leaf, Constant, Reads, leaves, Action, Assigns, Calls, Tests, Returns, Puts, Halts, argument_of, actions}
+use Rattle.c_tree.specs.Parts.{Leaf, Constant, Reads, leaves, Action, Assigns, Calls, Tests, Returns, Puts, Gets, Loops, Counts, Halts, argument_of, actions}
 
 -- the widths of integer types, in bits
 abbrev pub IsWidth : ℕ → Type 0
@@ -83,13 +83,16 @@ IsLeaf (Reads place) = IsPlace place
 abbrev pub IsExpr : CExpr → Type 0
 IsExpr e = All IsLeaf (leaves e)
 
--- the numbers of a halt have 8, 32 and 32 bits
+-- the numbers of a halt have 8, 32 and 32 bits, and a count has 32
 abbrev pub IsAction : Action → Type 0
 IsAction (Assigns place e) = IsPlace place × IsExpr e
 IsAction (Calls target name arguments) = IfSome target IsPlace × IsName name × All IsExpr arguments
 IsAction (Tests test) = IsExpr test
 IsAction (Returns value) = IfSome value IsExpr
 IsAction (Puts e) = IsExpr e
+IsAction (Gets place) = IsPlace place
+IsAction Loops = Unit {0}
+IsAction (Counts set tested raised count) = IsName set × IsName tested × IsName raised × (count ≤ 2 ^ 32 - 1)
 IsAction (Halts kind file line) = (kind ≤ 2 ^ 8 - 1) × (file ≤ 2 ^ 32 - 1) × (line ≤ 2 ^ 32 - 1)
 
 abbrev pub IsStmt : CStmt → Type 0
@@ -117,7 +120,7 @@ abbrev pub returned_depth : Option CExpr → ℕ
 returned_depth None = 0
 returned_depth (Some e) = expr_depth e
 
--- a place is one node, which a call has where it has a target
+-- a place is one node, which a call has where it has a target; the names of a `for` are no places
 abbrev pub target_depth : Option CPlace → ℕ
 target_depth None = 0
 target_depth (Some place) = 1
@@ -126,8 +129,12 @@ abbrev pub stmt_depth_step : CStmt-F ℕ → ℕ
 stmt_depth_step (stmt.Assign place e) = 1 + max 1 (expr_depth e)
 stmt_depth_step (stmt.Call target name arguments) = 1 + max (target_depth target) (deepest (map (λ argument. expr_depth (argument_of argument)) arguments))
 stmt_depth_step (stmt.If test chosen other) = 1 + max (expr_depth test) (max (deepest chosen) (deepest_else other))
+stmt_depth_step (stmt.Loop body) = 1 + deepest body
+stmt_depth_step (stmt.Count set tested count raised body) = 1 + deepest body
+stmt_depth_step stmt.Break = 1
 stmt_depth_step (stmt.Return value) = 1 + returned_depth value
 stmt_depth_step (stmt.Put e) = 1 + expr_depth e
+stmt_depth_step (stmt.Get place) = 2
 stmt_depth_step (stmt.Halt kind file line) = 1
 
 -- how deep statements and expressions nest

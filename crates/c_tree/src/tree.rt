@@ -63,10 +63,19 @@ pub enum CStmt {
     Call(Option<CPlace>, Text, Row<CArg>),
     /// `if (EXPR) { .. }`, or `if (EXPR) { .. } else { .. }`
     If(CExpr, Row<CStmt>, Option<Row<CStmt>>),
+    /// `while (1) { .. }`
+    Loop(Row<CStmt>),
+    /// `for (NAME = INT64_C(0); NAME < COUNT; NAME++) { .. }`: the name that is set, the name that is tested, the count, the name that
+    /// is raised, and the body.
+    Count(Text, Text, u32, Text, Row<CStmt>),
+    /// `break;`
+    Break,
     /// `return EXPR;`, or `return;`
     Return(Option<CExpr>),
     /// `sl_put(EXPR);`
     Put(CExpr),
+    /// `PLACE = sl_get();`
+    Get(CPlace),
     /// `sl_halt(KIND, FILE, LINE);`
     Halt(u8, u32, u32),
 }
