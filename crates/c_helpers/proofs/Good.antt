@@ -17,7 +17,7 @@ use Rattle.c_tree.specs.Words.{IsName, reserved_words}
 use Rattle.c_tree.specs.Scope.{Scope}
 use Rattle.c_tree.specs.WellFormed.{expr_depth}
 use Rattle.c_tree.specs.Rules.{word, NamesClash}
-use Rattle.c_tree.proofs.Variants.{expression_depths_are, ends_are}
+use Rattle.c_tree.proofs.Variants.{expression_depths_are, strays_are, ends_are}
 use Rattle.c_helpers.specs.Functions.{constant, named, greatest, least, minus_one, give, if_else, parameter, sum_fits, difference_fits, product_by_positive, product_by_negative, product_fits, quotient_fits, remainder, put_digit, digit, call_digit, powers, put_sign, print}
 use Rattle.c_helpers.proofs.Names.{name_is, none_of, no_clash}
 use Rattle.c_helpers.proofs.Keeping.{IsKnown, ExprGood, inside, CanCall, StmtGood, FunctionGood}
@@ -178,6 +178,7 @@ module _ (file : CFile) (before : List CFun) where
   sum_keeps = record {
     names = two_keep;
     body = shallow file before sum_fits 12 (omega arith) sum_fits.body (sum_body file before sum_fits (record { spelled = a_is_name; type = refl }) (record { spelled = b_is_name; type = refl }) refl);
+    loops = simp strays_are;
     ends = λ _. simp ends_are;
   }
 
@@ -185,6 +186,7 @@ module _ (file : CFile) (before : List CFun) where
   difference_keeps = record {
     names = two_keep;
     body = shallow file before difference_fits 12 (omega arith) difference_fits.body (difference_body file before difference_fits (record { spelled = a_is_name; type = refl }) (record { spelled = b_is_name; type = refl }) refl);
+    loops = simp strays_are;
     ends = λ _. simp ends_are;
   }
 
@@ -192,6 +194,7 @@ module _ (file : CFile) (before : List CFun) where
   product_keeps = record {
     names = two_keep;
     body = shallow file before product_fits 14 (omega arith) product_fits.body (product_body file before product_fits (record { spelled = a_is_name; type = refl }) (record { spelled = b_is_name; type = refl }) refl);
+    loops = simp strays_are;
     ends = λ _. simp ends_are;
   }
 
@@ -199,6 +202,7 @@ module _ (file : CFile) (before : List CFun) where
   quotient_keeps = record {
     names = two_keep;
     body = shallow file before quotient_fits 12 (omega arith) quotient_fits.body (quotient_body file before quotient_fits (record { spelled = a_is_name; type = refl }) (record { spelled = b_is_name; type = refl }) refl);
+    loops = simp strays_are;
     ends = λ _. simp ends_are;
   }
 
@@ -206,6 +210,7 @@ module _ (file : CFile) (before : List CFun) where
   remainder_keeps = record {
     names = two_keep;
     body = shallow file before remainder 12 (omega arith) remainder.body (remainder_body file before remainder (record { spelled = a_is_name; type = refl }) (record { spelled = b_is_name; type = refl }) refl);
+    loops = simp strays_are;
     ends = λ _. simp ends_are;
   }
 
@@ -213,6 +218,7 @@ module _ (file : CFile) (before : List CFun) where
   digit_keeps = record {
     names = two_keep;
     body = shallow file before digit 11 (omega arith) digit.body (digit_body file before digit (record { spelled = a_is_name; type = refl }) (record { spelled = b_is_name; type = refl }));
+    loops = simp strays_are;
     ends = λ not. absurd (not refl);
   }
 
@@ -274,5 +280,6 @@ module _ (file : CFile) (before : List CFun) where
           (All-append (StmtGood file before print 10) (map call_digit powers) (put_digit (named (codes "a")) ∷ [])
           (All-map (StmtGood file before print 10) call_digit powers (All-weaker (λ power. power ≤ 2 ^ 63 - 1) (λ power. StmtGood file before print 10 (call_digit power)) calls_digit powers powers_small))
           (alone file before print 10 (put_digit (named (codes "a"))) (puts_digit file before print (named (codes "a")) (a file before print a_known) (simp expression_depths_are (omega arith))))));
+      loops = simp strays_are;
       ends = λ not. absurd (not refl);
     }

@@ -1,7 +1,8 @@
 -- What keeps the rules of C inside a function, and what a text can have there, where all variables and values are `int64_t`.
 use Rattle.std.proofs.Common.{◌≡◌, ◌≢◌, ◌⊎◌, ℕ, ◌≤◌, List, [], ◌∷◌, ◌++◌, true, false, Option, Some, None, refl, sym, subst, ap, ◌∙◌, inl, inr, All, Contains, map}
 use Rattle.std.specs.Prelude.{option_map, IfSome}
-use Rattle.std.specs.List.{flat_map}
+use Rattle.std.specs.List.{flat_map, list_any}
+use Rattle.std.proofs.lemmas.List.Folds.{list_any_none}
 use Rattle.std.proofs.lemmas.List.Elements.{All-nil, All-cons, All-head, All-tail, All-append, All-contains, All-weaker}
 use Rattle.c_tree.specs.declared.tree.CFile.{CFile}
 use Rattle.c_tree.specs.declared.tree.CVar.{CVar}
@@ -14,10 +15,10 @@ use Rattle.c_tree.specs.declared.tree.CType.TheVariants.{Void}
 use Rattle.c_tree.specs.declared.tree.CExpr.{CExpr}
 use Rattle.c_tree.specs.Words.{IsName}
 use Rattle.c_tree.specs.WellFormed.{greatest, IsLeaf, IsExpr, IsAction, IsPlace, IsStmt, stmt_depth}
-use Rattle.c_tree.specs.Parts.{Leaf, Constant, Reads, leaves, Action, Assigns, Calls, Tests, Returns, Puts, Halts, actions, actions_in}
+use Rattle.c_tree.specs.Parts.{Leaf, Constant, Reads, leaves, Action, Assigns, Calls, Tests, Returns, Puts, Gets, Loops, Counts, Halts, actions, actions_in}
 use Rattle.c_tree.specs.Bytes.{called, called_by}
 use Rattle.c_tree.specs.Scope.{Scope, scope_of, variable}
-use Rattle.c_tree.specs.Rules.{word, var_names, fun_names, NamesClash, IsDeclared, NamesRead, NamesVariable, BreaksInside, type_of_name, typed, HasExpr, HasOtherType, HasWrongValue, ArgumentsMisfit, last_is, ends_function}
+use Rattle.c_tree.specs.Rules.{word, var_names, fun_names, NamesClash, IsDeclared, NamesRead, NamesVariable, BreaksInside, type_of_name, typed, HasExpr, HasOtherType, HasWrongValue, ArgumentsMisfit, recounts, last_is, ends_function, some_are, strays}
 use Rattle.c_tree.specs.Rules as rules
 
 -- Expressions ---------------------------------------------------------------------------------------------------------
@@ -134,7 +135,7 @@ module _ (file : CFile) (before : List CFun) (function : CFun) where
     pub fits : ArgumentsGood inside arguments params
     pub stored : TargetGood inside target result
 
-  -- an action that breaks no rule and can be in a text
+  -- An action that breaks no rule and can be in a text. None counts, and in an inline function none goes round
   abbrev pub ActionGood : Action → Type 0
   ActionGood (Assigns (Name name) e) = IsKnown inside name × ExprGood inside e
   ActionGood (Calls target name arguments) = CallGood target name arguments
@@ -142,17 +143,22 @@ module _ (file : CFile) (before : List CFun) (function : CFun) where
   ActionGood (Returns None) = function.result ≡ Void
   ActionGood (Returns (Some e)) = (function.result ≡ word) × ExprGood inside e
   ActionGood (Puts e) = ExprGood inside e
+  ActionGood (Gets (Name name)) = IsKnown inside name
+  ActionGood Loops = function.inline ≡ false
+  ActionGood (Counts set tested raised count) = ⊥
   ActionGood (Halts kind file line) = IsAction (Halts kind file line)
 
-  -- a statement of such actions, that nests at most so deep
+  -- a statement of such actions, that stores in the variable of no `for` and nests at most so deep
   pub record StmtGood (depth : ℕ) (s : CStmt) : Type 0 where
     pub acts : All ActionGood (actions s)
+    pub counts : recounts s [] ≡ false
     pub deep : stmt_depth s ≤ depth
 
   -- a function that keeps the rules
   pub record FunctionGood : Type 0 where
     pub names : ¬ NamesClash (var_names (function.params ++ function.vars))
     pub body : All (StmtGood 1024) function.body
+    pub loops : some_are (map strays function.body) ≡ false
     pub ends : function.result ≢ Void → last_is (map ends_function function.body) ≡ true
 
   -- an action can be in a text
@@ -164,6 +170,9 @@ module _ (file : CFile) (before : List CFun) (function : CFun) where
   formed_action (Returns None) good = tt
   formed_action (Returns (Some e)) good = formed_expr inside e good.1
   formed_action (Puts e) good = formed_expr inside e good
+  formed_action (Gets (Name name)) good = good.spelled
+  formed_action Loops good = tt
+  formed_action (Counts set tested raised count) good = absurd good
   formed_action (Halts kind file line) good = good
 
   -- a statement can
@@ -199,6 +208,9 @@ module _ (file : CFile) (before : List CFun) (function : CFun) where
     name_of (Tests test) good = All-nil NameGood
     name_of (Returns value) good = All-nil NameGood
     name_of (Puts e) good = All-nil NameGood
+    name_of (Gets place) good = All-nil NameGood
+    name_of Loops good = All-nil NameGood
+    name_of (Counts set tested raised count) good = All-nil NameGood
     name_of (Halts kind file line) good = All-nil NameGood
 
     names_of : (all : List Action) → All ActionGood all → All NameGood (flat_map called_by all)
@@ -218,6 +230,9 @@ module _ (file : CFile) (before : List CFun) (function : CFun) where
     names_known (Returns None) kept name (e, is, read) = cc
     names_known (Returns (Some value)) kept name (e, is, read) = let same : value ≡ e = cc in reads_known inside value kept.1 name (subst (λ e. NamesRead e name) (sym same) read)
     names_known (Puts e) kept name read = reads_known inside e kept name read
+    names_known (Gets (Name other)) kept name is = let same : other ≡ name = cc in subst (λ name. variable inside name ≢ None) same (declared_name inside other kept)
+    names_known Loops kept name read = absurd read
+    names_known (Counts set tested raised count) kept name read = absurd kept
     names_known (Halts kind file line) kept name read = absurd read
 
     -- the operands in its expressions fit
@@ -228,6 +243,9 @@ module _ (file : CFile) (before : List CFun) (function : CFun) where
     operands_right (Returns None) kept e is = cc
     operands_right (Returns (Some value)) kept e is = let same : value ≡ e = cc in subst (λ e. (typed inside e).fits ≢ false) same (right_operands inside value kept.1)
     operands_right (Puts value) kept e is = subst (λ e. (typed inside e).fits ≢ false) is (right_operands inside value kept)
+    operands_right (Gets place) kept e is = absurd is
+    operands_right Loops kept e is = absurd is
+    operands_right (Counts set tested raised count) kept e is = absurd is
     operands_right (Halts kind file line) kept e is = absurd is
 
     -- and its value has the type that is wanted
@@ -239,12 +257,19 @@ module _ (file : CFile) (before : List CFun) (function : CFun) where
     value_right (Returns None) kept wrong = wrong kept
     value_right (Returns (Some e)) kept wrong = right_type inside e kept.1 (subst (HasOtherType inside e) kept.0 wrong)
     value_right (Puts e) kept wrong = right_type inside e kept wrong
+    value_right (Gets (Name name)) kept (kind, is, other) = let same : Some word ≡ Some kind = sym kept.type ∙ is in let right : word ≡ kind = cc in other (sym right)
+    value_right Loops kept wrong = wrong
+    value_right (Counts set tested raised count) kept wrong = wrong
     value_right (Halts kind file line) kept wrong = wrong
 
     -- what is called has the parameters and the result for which the call is made
     right_callee : (callee : CFun) (target : Option CPlace) (arguments : List CExpr) → Contains file.functions callee → (kept : CallGood target callee.name arguments)
         → (callee.params ≡ kept.params) × (callee.result ≡ kept.result)
     right_callee callee target arguments among kept = All-contains (AreAll callee.name kept.params kept.result) file.functions callee kept.can.only among refl
+
+    -- nothing stores in the variable of a `for`
+    none_counts : list_any (λ s. recounts s []) function.body ≡ false
+    none_counts = list_any_none (λ s. recounts s []) function.body (All-weaker (StmtGood 1024) (λ s. recounts s [] ≡ false) (λ s h. h.counts) function.body good.body)
 
     -- so it breaks no rule
     pub function_keeps : (rule : ℕ) → ¬ BreaksInside file before function rule
@@ -266,7 +291,11 @@ module _ (file : CFile) (before : List CFun) (function : CFun) where
         let right : word ≡ other = cc in
         let wide : true ≡ false = ap rules.is_word right ∙ narrow in
         cc
-    function_keeps rule (inr (inr (inr (inr (inr (inr (inr (inl (is, (inline, (name, among, not))))))))))) =
+    function_keeps rule (inr (inr (inr (inr (inr (inr (inr (inl (is, (inline, inl loops)))))))))) = let same : true ≡ false = sym inline ∙ action_good Loops loops in cc
+    function_keeps rule (inr (inr (inr (inr (inr (inr (inr (inl (is, (inline, inr (name, among, not))))))))))) =
         let below : (callee : CFun) × Contains before callee × (callee.inline ≡ true) × (callee.name ≡ name) = (name_good name among).2.below inline in
         not below.0 below.1 below.2 below.3
-    function_keeps rule (inr (inr (inr (inr (inr (inr (inr (inr (is, (result, ended)))))))))) = let same : true ≡ false = sym (good.ends result) ∙ ended in cc
+    function_keeps rule (inr (inr (inr (inr (inr (inr (inr (inr (inl (is, inl (set, tested, raised, count, among, wrong))))))))))) = action_good (Counts set tested raised count) among
+    function_keeps rule (inr (inr (inr (inr (inr (inr (inr (inr (inl (is, inr counts)))))))))) = let same : true ≡ false = sym counts ∙ none_counts in cc
+    function_keeps rule (inr (inr (inr (inr (inr (inr (inr (inr (inr (is, inl stray)))))))))) = let same : true ≡ false = sym stray ∙ good.loops in cc
+    function_keeps rule (inr (inr (inr (inr (inr (inr (inr (inr (inr (is, inr (result, ended))))))))))) = let same : true ≡ false = sym (good.ends result) ∙ ended in cc
