@@ -4,7 +4,7 @@ use Rattle.c_tree.specs.declared.tree.CExpr.{CExpr}
 use Rattle.c_tree.specs.declared.tree.CStmt.{CStmt}
 use Rattle.c_tree.specs.declared.tree.CStmt.TheVariants.{If}
 use Rattle.c_tree.specs.Rules.{last_is, ends_function}
-use Rattle.c_tree.proofs.Variants.{ends_of_assign, ends_of_call, ends_of_if, ends_of_if_else, ends_of_return, ends_of_put, ends_of_halt}
+use Rattle.c_tree.proofs.Variants.{ends_of_assign, ends_of_call, ends_of_if, ends_of_if_else, ends_of_loop, ends_of_count, ends_of_break, ends_of_return, ends_of_put, ends_of_get, ends_of_halt}
 use Rattle.c_rules.specs.Types.{ends_else}
 
 -- it is the last one that counts
@@ -18,4 +18,4 @@ pub ends_at_if : (test : CExpr) (chosen : List CStmt) (other : Option (List CStm
 ends_at_if test chosen None = ends_of_if test chosen
 ends_at_if test chosen (Some block) = ends_of_if_else test chosen block
 
-pub ruleset ends_all = (ends_at_last, ends_at_if, ends_of_assign, ends_of_call, ends_of_return, ends_of_put, ends_of_halt)
+pub ruleset ends_all = (ends_at_last, ends_at_if, ends_of_assign, ends_of_call, ends_of_loop, ends_of_count, ends_of_break, ends_of_return, ends_of_put, ends_of_get, ends_of_halt)

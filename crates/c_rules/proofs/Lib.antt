@@ -1,5 +1,10 @@
 pub mod LastOf
+pub mod Rounds
 pub mod Lookups
+pub mod Keeping
+pub mod Declared
+pub mod Counted
+pub mod Found
 pub mod Walks
 pub mod Anys
 pub mod Clashes

@@ -1,5 +1,5 @@
 -- What a name means, and what is known of expressions, one form at a time.
-use Rattle.std.proofs.Common.{◌≡◌, ℕ, ◌<◌, ◌≤◌, ◌⊎◌, List, ◌++◌, Bool, true, false, not, ◌&&◌, ◌||◌, Option, Some, None, inl, inr, if◌then◌else◌, refl, sym, ap, ◌∙◌, length, bytes_eq}
+use Rattle.std.proofs.Common.{◌≡◌, ℕ, ◌<◌, ◌≤◌, ◌⊎◌, List, ◌++◌, Bool, true, false, not, ◌&&◌, ◌||◌, Option, Some, None, inl, inr, if◌then◌else◌, refl, sym, ap, ap₂, ◌∙◌, length, bytes_eq}
 use Rattle.std.specs.Prelude.{option_map, nat_lt}
 use Rattle.std.specs.List.{find, list_any, position, slice_get, position_or_len}
 use Rattle.std.specs.Option.{option_and_then, option_or, is_some}
@@ -19,7 +19,10 @@ use Rattle.c_tree.specs.Parts.{leaves}
 use Rattle.c_tree.specs.Scope.{Scope, scope_of, var_named, or_else}
 use Rattle.c_tree.specs.Rules.{word, typed, operands_fit, operand_fits, type_of_name, type_of_place}
 use Rattle.c_tree.proofs.Variants.{leaves_of_const, leaves_of_read, leaves_of_binary, leaves_of_compare, leaves_of_negate, typed_of_const, typed_of_read, typed_of_binary, typed_of_compare, typed_of_negate}
-use Rattle.c_rules.specs.Types.{kind_in, kind_named, is_strange, reads_strange}
+use Rattle.c_rules.specs.declared.around.Around.{Around}
+use Rattle.c_rules.specs.Types.{kind_in, is_strange, reads_strange}
+use Rattle.c_rules.specs.Naming.{item_named}
+use Rattle.c_rules.specs.Found.{AreFound}
 
 -- Names ---------------------------------------------------------------------------------------------------------------
 
@@ -32,6 +35,10 @@ at_first xs n (inr more) = ap (λ b. option_and_then (slice_get xs) (if b then S
 first_of : {X : Type 0} (p : X → Bool) (xs : List X) → option_and_then (slice_get xs) (position p xs) ≡ find p xs
 first_of p xs = at_first xs (position_or_len p xs) (cases_lt (position_or_len p xs) (length xs)) ∙ sym (find_at p xs)
 
+-- the type of the first variable with a name
+pub kind_is : (vars : List CVar) (name : List ℕ) → kind_in vars name ≡ option_map (λ (var : CVar). var.kind) (var_named vars name)
+kind_is vars name = ap (option_map (λ (var : CVar). var.kind)) (sym (first_of (λ (var : CVar). bytes_eq var.name name) vars))
+
 -- two words for the first of two
 or_same : {A : Type 0} (first second : Option A) → option_or first second ≡ or_else first second
 or_same None second = refl
@@ -43,26 +50,23 @@ kind_or None second = refl
 kind_or (Some var) second = refl
 
 -- in one list behind another
-kind_in_both : (vars others : List CVar) (name : List ℕ) → kind_in (vars ++ others) name ≡ or_else (kind_in vars name) (kind_in others name)
+pub kind_in_both : (vars others : List CVar) (name : List ℕ) → kind_in (vars ++ others) name ≡ or_else (kind_in vars name) (kind_in others name)
 kind_in_both vars others name =
     let test = λ (var : CVar). bytes_eq var.name name
     in ap (option_map (λ (var : CVar). var.kind)) (find-append test vars others ∙ or_same (find test vars) (find test others)) ∙ kind_or (find test vars) (find test others)
 
--- the first of three
-or_else_assoc : {A : Type 0} (first second third : Option A) → or_else (or_else first second) third ≡ or_else first (or_else second third)
-or_else_assoc None second third = refl
-or_else_assoc (Some x) second third = refl
-
 -- the type that a name has in a function
-pub type_at : (file : CFile) (function : CFun) (name : List ℕ) → type_of_name (scope_of file function) name ≡ kind_named file function name
+pub type_at : (file : CFile) (function : CFun) (name : List ℕ) → type_of_name (scope_of file function) name ≡ or_else (kind_in (function.params ++ function.vars) name) (kind_in file.globals name)
 type_at file function name =
     let test = λ (var : CVar). bytes_eq var.name name in
     let kind = λ (var : CVar). var.kind in
     ap (λ local. option_map kind (or_else local (var_named file.globals name))) (first_of test (function.params ++ function.vars))
     ∙ (ap (λ global. option_map kind (or_else (find test (function.params ++ function.vars)) global)) (first_of test file.globals)
-    ∙ (kind_or (find test (function.params ++ function.vars)) (find test file.globals)
-    ∙ (ap (λ local. or_else local (kind_in file.globals name)) (kind_in_both function.params function.vars name)
-    ∙ or_else_assoc (kind_in function.params name) (kind_in function.vars name) (kind_in file.globals name))))
+    ∙ kind_or (find test (function.params ++ function.vars)) (find test file.globals))
+
+-- it is found
+pub type_found : (around : Around) (found : AreFound around) (name : List ℕ) → type_of_name (scope_of around.file.now around.function.now) name ≡ or_else (item_named around.locals.now name) (item_named around.globals.now name)
+type_found around found name = type_at around.file.now around.function.now name ∙ sym (ap₂ or_else (found.locals name) (found.globals name))
 
 -- Expressions ---------------------------------------------------------------------------------------------------------
 

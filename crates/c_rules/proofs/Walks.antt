@@ -12,11 +12,11 @@ use Rattle.c_tree.specs.declared.tree.CVar.{CVar}
 use Rattle.c_tree.specs.declared.tree.CExpr.{CExpr}
 use Rattle.c_tree.specs.declared.tree.CPlace.{CPlace}
 use Rattle.c_tree.specs.declared.tree.CStmt.{CStmt}
-use Rattle.c_tree.specs.declared.tree.CStmt.TheVariants.{Assign, Call, If, Return, Put, Halt}
-use Rattle.c_tree.specs.Parts.{Action, Assigns, Calls, Tests, Returns, Puts, Halts, actions, joined, argument_of, arguments_of}
+use Rattle.c_tree.specs.declared.tree.CStmt.TheVariants.{Assign, Call, If, Loop, Count, Break, Return, Put, Get, Halt}
+use Rattle.c_tree.specs.Parts.{Action, Assigns, Calls, Tests, Returns, Puts, Gets, Loops, Counts, Halts, actions, joined, argument_of, arguments_of}
 use Rattle.c_tree.specs.Scope.{Scope}
-use Rattle.c_tree.proofs.Variants.{actions_of_assign, actions_of_call, actions_of_if, actions_of_if_else, actions_of_return, actions_of_put, actions_of_halt}
-use Rattle.c_rules.specs.Least.{least, least_in}
+use Rattle.c_tree.proofs.Variants.{actions_of_assign, actions_of_call, actions_of_if, actions_of_if_else, actions_of_loop, actions_of_count, actions_of_break, actions_of_return, actions_of_put, actions_of_get, actions_of_halt}
+use Rattle.c_rules.specs.Least.{told, least, least_in}
 use Rattle.c_rules.specs.Bodies.{misfits, pair_misfits, of_stmt, of_block, rule_of}
 
 -- The least of rules ---------------------------------------------------------------------------------------------------
@@ -75,6 +75,23 @@ module _ (broken : Action → Option ℕ) where
       ∙ (ap (least (broken (Tests test))) (least_append broken (joined (map actions chosen)) (joined (map actions other)) ∙ (ap (λ rule. least rule (least_in broken (joined (map actions other)))) (least_flat broken actions chosen) ∙ ap (least (least_in (λ stmt. least_in broken (actions stmt)) chosen)) (least_flat broken actions other)))
       ∙ sym (least_assoc (broken (Tests test)) (least_in (λ stmt. least_in broken (actions stmt)) chosen) (least_in (λ stmt. least_in broken (actions stmt)) other)))
 
+  pub of_loop : (body : List CStmt) → of_stmt broken (Loop body) ≡ least (broken Loops) (of_block broken body)
+  unfolding of_stmt
+  of_loop body = ap (least_in broken) (actions_of_loop body) ∙ ap (least (broken Loops)) (least_flat broken actions body)
+
+  pub of_count : (set tested : List ℕ) (count : ℕ) (raised : List ℕ) (body : List CStmt) → of_stmt broken (Count set tested count raised body) ≡ least (broken (Counts set tested raised count)) (of_block broken body)
+  unfolding of_stmt
+  of_count set tested count raised body =
+      ap (least_in broken) (actions_of_count set tested count raised body) ∙ ap (least (broken (Counts set tested raised count))) (least_flat broken actions body)
+
+  pub of_break : of_stmt broken Break ≡ None
+  unfolding of_stmt
+  of_break = ap (least_in broken) actions_of_break
+
+  pub of_get : (place : CPlace) → of_stmt broken (Get place) ≡ broken (Gets place)
+  unfolding of_stmt
+  of_get place = ap (least_in broken) (actions_of_get place) ∙ least_none (broken (Gets place))
+
   pub of_return : (value : Option CExpr) → of_stmt broken (Return value) ≡ broken (Returns value)
   unfolding of_stmt
   of_return value = ap (least_in broken) (actions_of_return value) ∙ least_none (broken (Returns value))
@@ -92,7 +109,12 @@ pub of_halt_here : (file : CFile) (earlier : List CFun) (function : CFun) (kind 
 unfolding rule_of
 of_halt_here file earlier function kind at line = of_halt (rule_of file earlier function) kind at line
 
-pub ruleset all_stmts = (of_assign, of_call, of_if, of_if_else, of_return, of_put, of_halt_here)
+-- an inline function holds no loop
+pub of_loop_here : (file : CFile) (earlier : List CFun) (function : CFun) (body : List CStmt) → of_stmt (rule_of file earlier function) (Loop body) ≡ least (told 19 function.inline) (of_block (rule_of file earlier function) body)
+unfolding rule_of
+of_loop_here file earlier function body = of_loop (rule_of file earlier function) body
+
+pub ruleset all_stmts = (of_assign, of_call, of_if, of_if_else, of_loop_here, of_count, of_break, of_return, of_put, of_get, of_halt_here)
 
 -- Arguments -----------------------------------------------------------------------------------------------------------
 

@@ -1,5 +1,5 @@
 -- The least rule that an action in a function breaks.
-use Rattle.std.specs.Prelude.{ℕ, List, [], ◌∷◌, Bool, true, false, not, ◌&&◌, ◌||◌, Option, Some, None, if◌then◌else◌}
+use Rattle.std.specs.Prelude.{ℕ, ◌^◌, nat_lt, List, [], ◌∷◌, ◌++◌, Bool, true, false, not, ◌&&◌, ◌||◌, Option, Some, None, if◌then◌else◌}
 use Rattle.std.specs.List.{list_any}
 use Rattle.std.specs.Option.{is_some}
 use Rattle.std.specs.Str.{bytes_eq}
@@ -9,13 +9,14 @@ use Rattle.c_tree.specs.declared.tree.CFun.{CFun}
 use Rattle.c_tree.specs.declared.tree.CVar.{CVar}
 use Rattle.c_tree.specs.declared.tree.CType.{CType}
 use Rattle.c_tree.specs.declared.tree.CPlace.{CPlace}
+use Rattle.c_tree.specs.declared.tree.CPlace.TheVariants.{Name}
 use Rattle.c_tree.specs.declared.tree.CExpr.{CExpr}
 use Rattle.c_tree.specs.declared.tree.CStmt.{CStmt}
-use Rattle.c_tree.specs.Parts.{Action, Assigns, Calls, Tests, Returns, Puts, Halts, actions, argument_of}
+use Rattle.c_tree.specs.Parts.{Action, Assigns, Calls, Tests, Returns, Puts, Gets, Loops, Counts, Halts, actions, argument_of}
 use Rattle.c_tree.specs.Scope.{Scope, scope_of}
 use Rattle.c_tree.specs.Rules.{word, type_of_place, typed}
 use Rattle.c_rules.specs.Least.{told, least, least_in}
-use Rattle.c_rules.specs.Types.{is_void, is_other, are_other, is_no_word, reads_strange}
+use Rattle.c_rules.specs.Types.{is_void, same_type, is_other, are_other, is_no_word, kind_in, reads_strange}
 
 -- a function has this name
 abbrev pub is_named : List ℕ → CFun → Bool
@@ -74,6 +75,16 @@ of_callee scope target name arguments callee =
     then least (told 16 (misfits scope arguments callee.params)) (told 17 (result_misfits scope target callee.result))
     else None
 
+-- an `int64_t`
+abbrev pub is_counter : Option CType → Bool
+is_counter None = false
+is_counter (Some kind) = same_type kind word
+
+-- a `for` counts too far, or its names aren't one, or aren't that of an `int64_t` of the function itself
+abbrev pub miscounts : CFun → (set tested raised : List ℕ) → (count : ℕ) → Bool
+miscounts function set tested raised count =
+    nat_lt (2 ^ 24) count || (not (bytes_eq tested set) || (not (bytes_eq raised set) || not (is_counter (kind_in (function.params ++ function.vars) set))))
+
 unfoldable pub rule_of : CFile → List CFun → CFun → Action → Option ℕ
 rule_of file earlier function (Assigns place e) =
     let scope = scope_of file function
@@ -88,6 +99,12 @@ rule_of file earlier function (Returns (Some e)) =
     let scope = scope_of file function in least (of_expr scope e) (told 15 (is_other (typed scope e).type function.result))
 rule_of file earlier function (Puts e) =
     let scope = scope_of file function in least (of_expr scope e) (told 15 (is_other (typed scope e).type word))
+rule_of file earlier function (Gets place) =
+    let scope = scope_of file function in least (of_place scope place) (told 15 (are_other (Some word) (type_of_place scope place)))
+rule_of file earlier function Loops = told 19 function.inline
+rule_of file earlier function (Counts set tested raised count) =
+    let scope = scope_of file function
+    in least (least (of_place scope (Name set)) (least (of_place scope (Name tested)) (of_place scope (Name raised)))) (told 20 (miscounts function set tested raised count))
 rule_of file earlier function (Halts kind at line) = None
 
 -- what the actions of a statement break, and those of a block

@@ -3,6 +3,9 @@ pub mod Least
 pub mod Types
 pub mod Protos
 pub mod Bodies
+pub mod Naming
+pub mod Found
+pub mod Loops
 pub mod Names
 pub mod Inside
 pub mod Sizes

@@ -1,11 +1,15 @@
 -- Tests of prototypes.
-use Rattle.std.specs.Prelude.{List, [], ◌∷◌, Bool, true, false, not, ◌==◌, ◌&&◌, ◌||◌, codes, length}
+use Rattle.std.specs.Prelude.{ℕ, List, [], ◌∷◌, Bool, true, false, not, ◌==◌, ◌&&◌, ◌||◌, codes, length, slice_get}
 use Rattle.std.specs.List.{list_any, list_all, zip, count_by}
+use Rattle.std.specs.Option.{option_map_or}
 use Rattle.std.specs.Str.{bytes_eq}
+use Rattle.std.specs.Global.{Vec}
 use Rattle.c_tree.specs.declared.tree.CFile.{CFile}
 use Rattle.c_tree.specs.declared.tree.CFun.{CFun}
 use Rattle.c_tree.specs.declared.tree.CVar.{CVar}
 use Rattle.c_tree.specs.declared.tree.CType.TheVariants.{Int}
+use Rattle.c_rules.specs.declared.naming.Names.{Names}
+use Rattle.c_rules.specs.Naming.{numbers_named}
 use Rattle.c_rules.specs.Types.{same_type}
 
 -- whether two variables have the same name and type
@@ -31,9 +35,17 @@ is_start function = bytes_eq function.name (codes "sl_main") && not function.inl
 abbrev pub lacks_proto : List CFun → CFun → Bool
 lacks_proto protos function = not function.inline && not (count_by (λ proto. bytes_eq proto.name function.name) protos == 1)
 
+-- the same with the numbers of the prototypes by their names
+abbrev pub lacks_number : Names (Vec ℕ) → CFun → Bool
+lacks_number protos function = not function.inline && not (length (numbers_named protos function.name) == 1)
+
 -- a function isn't inline, and is like a prototype
 abbrev pub is_function_of : CFun → CFun → Bool
 is_function_of proto function = not function.inline && are_alike proto function
+
+-- so is the function with this number
+abbrev pub is_number_of : List CFun → CFun → ℕ → Bool
+is_number_of functions proto number = option_map_or (is_function_of proto) (slice_get functions number) false
 
 -- a prototype has no function like it
 abbrev pub lacks_function : List CFun → CFun → Bool

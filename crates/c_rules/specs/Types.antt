@@ -3,15 +3,13 @@ use Rattle.std.specs.Prelude.{ℕ, List, Bool, true, false, not, ◌==◌, Optio
 use Rattle.std.specs.List.{find, list_any}
 use Rattle.std.specs.Option.{is_some}
 use Rattle.std.specs.Str.{bytes_eq}
-use Rattle.c_tree.specs.declared.tree.CFile.{CFile}
-use Rattle.c_tree.specs.declared.tree.CFun.{CFun}
 use Rattle.c_tree.specs.declared.tree.CVar.{CVar}
 use Rattle.c_tree.specs.declared.tree.CType.{CType}
 use Rattle.c_tree.specs.declared.tree.CType.TheVariants.{Int, Void}
 use Rattle.c_tree.specs.declared.tree.CExpr.{CExpr}
 use Rattle.c_tree.specs.declared.tree.CStmt.{CStmt}
 use Rattle.c_tree.specs.Parts.{Leaf, Constant, Reads, leaves}
-use Rattle.c_tree.specs.Scope.{Scope, or_else}
+use Rattle.c_tree.specs.Scope.{Scope}
 use Rattle.c_tree.specs.Rules.{last_is, ends_function, is_word, type_of_place}
 
 abbrev pub is_void : CType → Bool
@@ -46,10 +44,6 @@ is_no_word (Some given) = not (is_word given)
 -- the type of the first variable with this name
 abbrev pub kind_in : List CVar → List ℕ → Option CType
 kind_in vars name = option_map (λ var. var.kind) (find (λ var. bytes_eq var.name name) vars)
-
--- the type of the variable that a name means in a function
-abbrev pub kind_named : CFile → CFun → List ℕ → Option CType
-kind_named file function name = or_else (kind_in function.params name) (or_else (kind_in function.vars name) (kind_in file.globals name))
 
 -- a leaf reads a variable that isn't declared
 abbrev pub is_strange : Scope → Leaf → Bool

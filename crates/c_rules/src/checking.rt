@@ -3,11 +3,15 @@ ghost use Rattle.std.specs.Prelude.{◌≡◌, IfOk};
 ghost use Rattle.c_tree.specs.Rules.{Breaks, BreaksOutside};
 ghost use Rattle.c_rules.specs.Checking.{Checks};
 ghost use Rattle.c_rules.specs.Least.{IsFirst, IsLeast};
+ghost use Rattle.c_rules.specs.Naming.{AreNumbered};
 
-use crate::bodies::Around;
+use crate::around::Around;
 use crate::inside::least_inside;
+use crate::kinds::{kinds_of, local_kinds};
 use crate::least::{least, sooner, told};
 use crate::names::breaks_names;
+use crate::naming::Names;
+use crate::numbers::{add_name, numbers_of};
 use crate::protos::breaks_prototypes;
 use crate::sizes::breaks_sizes;
 use c_tree::{CFault, CFile, NotC};
@@ -25,7 +29,7 @@ pub struct Checked {
 
 impl Checked {
     /// A file that breaks no rule, or its first broken rule: the one on the least line, and of those on one line the one with the
-    /// least number. A refusal drops the file.
+    /// least number. A refusal drops the file. It takes time linear in the file but for the logarithm of a sorted map.
     ///
     /// `Err(CFault::Mem)` comes only where memory runs out. The contract doesn't say so: it leaves that answer free.
     pub fn check(alloc: Global, file: CFile) -> Result<Checked, CFault>
@@ -45,31 +49,49 @@ impl Checked {
     }
 }
 
-/// The first rule that a file breaks.
+/// The first rule that a file breaks. What names mean is found in sorted maps, each made once.
 fn first_broken(alloc: Global, file: &CFile) -> Result<Option<NotC>, Mem>
     ensures { IfOk result (λ first. IsFirst (Breaks file.now) first) }
 {
-    let mut best = sooner(None, FIRST_LINE, least_outside(alloc, file)?);
+    let globals = kinds_of(alloc, file.globals.as_slice())?;
+    let numbers = numbers_of(alloc, file.functions.as_slice())?;
+    let protos = numbers_of(alloc, file.protos.as_slice())?;
+    let outside = least_outside(alloc, file, &numbers, &protos)?;
+    let mut best = sooner(None, FIRST_LINE, outside);
+    let mut names = Names::new(alloc);
     let functions = file.functions.as_slice();
     for (index, function) in functions.iter().enumerate() {
-        let earlier = &functions[..index];
+        let locals = local_kinds(alloc, function)?;
         let around = Around {
             file,
-            earlier,
+            earlier: &functions[..index],
             function,
+            globals: &globals,
+            locals: &locals,
+            functions: &numbers,
+            protos: &protos,
+            names: &names,
         };
         best = sooner(best, function.line, least_inside(alloc, &around)?);
+        add_name(alloc, &mut names, function)?;
     }
     Ok(best)
 }
 
 /// The least rule that is broken outside functions.
-fn least_outside(alloc: Global, file: &CFile) -> Result<Option<u8>, Mem>
+fn least_outside(
+    alloc: Global,
+    file: &CFile,
+    numbers: &Names<Vec<usize>>,
+    protos: &Names<Vec<usize>>,
+) -> Result<Option<u8>, Mem>
+    requires functions { AreNumbered file.now.functions numbers.now }
+    requires protos { AreNumbered file.now.protos protos.now }
     ensures { IfOk result (λ rule. IsLeast (BreaksOutside file.now) rule) }
 {
     let names = breaks_names(alloc, file)?;
     let sizes = breaks_sizes(file);
-    let protos = breaks_prototypes(file);
+    let protos = breaks_prototypes(file, numbers, protos);
     let behind = least(told(13, sizes), told(22, protos));
     Ok(least(told(10, names), behind))
 }

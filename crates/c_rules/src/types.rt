@@ -1,11 +1,16 @@
 // Types of expressions, and tests of types and names.
-ghost use Rattle.std.specs.Prelude.{◌≡◌, ◌&&◌, true, false};
+ghost use Rattle.std.specs.Prelude.{◌≡◌, ◌&&◌, true, false, ◌++◌};
 ghost use Rattle.std.specs.Str.{bytes_eq};
 ghost use Rattle.c_tree.specs.Scope.{scope_of};
-ghost use Rattle.c_tree.specs.Rules.{is_signed_word, is_unsigned_word, is_word, operand_fits, operands_fit, type_of_place, typed, words_alike};
-ghost use Rattle.c_rules.specs.Types.{are_other, is_no_word, is_other, is_void, kind_in, kind_named, reads_strange, same_type};
+ghost use Rattle.c_tree.specs.Rules.{is_signed_word, is_unsigned_word, is_word, operand_fits, operands_fit, type_of_name, type_of_place, typed, words_alike};
+ghost use Rattle.c_rules.specs.Found.{AreFound};
+ghost use Rattle.c_rules.specs.Naming.{item_named};
+ghost use Rattle.c_rules.specs.Types.{are_other, is_no_word, is_other, is_void, kind_in, reads_strange, same_type};
 
-use c_tree::{CExpr, CFile, CFun, CPlace, CType, CVar};
+use crate::around::Around;
+use crate::kinds::copied;
+use crate::naming::Names;
+use c_tree::{CExpr, CPlace, CType};
 use sl_text::Text;
 
 /// What is known of an expression: its type, where it has one, whether operands in it fit their operators, and whether it reads a
@@ -76,43 +81,41 @@ pub fn is_no_word(given: &Option<CType>) -> bool
     }
 }
 
-fn copied(kind: &CType) -> CType
-    ensures { result ≡ kind.now }
+/// The kind with this name.
+fn kind_in(kinds: &Names<CType>, name: &Text) -> Option<CType>
+    ensures { result ≡ item_named kinds.now name.now }
 {
-    match kind {
-        CType::Int(signed, width) => CType::Int(*signed, *width),
-        CType::Void => CType::Void,
-    }
+    let kind = kinds.get(name.as_str())?;
+    Some(copied(kind))
 }
 
-/// The type of the first variable with this name.
-fn kind_in(vars: &[CVar], name: &Text) -> Option<CType>
-    ensures { result ≡ kind_in vars.now name.now }
+/// The type of the parameter or variable of a function with this name.
+pub fn local_kind(around: &Around, name: &Text) -> Option<CType>
+    requires { AreFound around.now }
+    ensures { result ≡ kind_in (around.now.function.now.params ++ around.now.function.now.vars) name.now }
 {
-    let var = vars.iter().find(|var| same_text(&var.name, name))?;
-    Some(copied(&var.kind))
+    kind_in(around.locals, name)
 }
 
 /// The type of the variable that a name means in a function: of a parameter or a variable, and else of a global one.
-fn kind_named(file: &CFile, function: &CFun, name: &Text) -> Option<CType>
-    ensures { result ≡ kind_named file.now function.now name.now }
+#[tactic(auto, using(crate::proofs::Lookups::type_found))]
+pub fn kind_named(around: &Around, name: &Text) -> Option<CType>
+    requires { AreFound around.now }
+    ensures { result ≡ type_of_name (scope_of around.now.file.now around.now.function.now) name.now }
 {
-    if let Some(kind) = kind_in(function.params.as_slice(), name) {
+    if let Some(kind) = kind_in(around.locals, name) {
         return Some(kind);
     }
-    if let Some(kind) = kind_in(function.vars.as_slice(), name) {
-        return Some(kind);
-    }
-    kind_in(file.globals.as_slice(), name)
+    kind_in(around.globals, name)
 }
 
 /// The type of a place.
-#[tactic(auto, using(crate::proofs::Lookups::type_at))]
-pub fn kind_at(file: &CFile, function: &CFun, place: &CPlace) -> Option<CType>
-    ensures { result ≡ type_of_place (scope_of file.now function.now) place.now }
+pub fn kind_at(around: &Around, place: &CPlace) -> Option<CType>
+    requires { AreFound around.now }
+    ensures { result ≡ type_of_place (scope_of around.now.file.now around.now.function.now) place.now }
 {
     let CPlace::Name(name) = place;
-    kind_named(file, function, name)
+    kind_named(around, name)
 }
 
 fn is_word_of(kind: &CType, signed: bool) -> bool
@@ -161,10 +164,11 @@ fn both_fit(left: &Known, right: &Known) -> bool
 
 /// What is known of an expression in a function.
 #[tactic(auto, using(crate::proofs::Lookups::all_known))]
-pub fn know(file: &CFile, function: &CFun, e: &CExpr) -> Known
-    ensures kind { result.kind ≡ (typed (scope_of file.now function.now) e.now).type }
-    ensures fits { result.fits ≡ (typed (scope_of file.now function.now) e.now).fits }
-    ensures strange { result.strange ≡ reads_strange (scope_of file.now function.now) e.now }
+pub fn know(around: &Around, e: &CExpr) -> Known
+    requires { AreFound around.now }
+    ensures kind { result.kind ≡ (typed (scope_of around.now.file.now around.now.function.now) e.now).type }
+    ensures fits { result.fits ≡ (typed (scope_of around.now.file.now around.now.function.now) e.now).fits }
+    ensures strange { result.strange ≡ reads_strange (scope_of around.now.file.now around.now.function.now) e.now }
 {
     match e {
         CExpr::Const(signed, _) => Known {
@@ -173,7 +177,7 @@ pub fn know(file: &CFile, function: &CFun, e: &CExpr) -> Known
             strange: false,
         },
         CExpr::Read(place) => {
-            let kind = kind_at(file, function, place);
+            let kind = kind_at(around, place);
             let strange = kind.is_none();
             Known {
                 kind,
@@ -182,8 +186,8 @@ pub fn know(file: &CFile, function: &CFun, e: &CExpr) -> Known
             }
         }
         CExpr::Binary(_, left, right) => {
-            let left = know(file, function, left.get());
-            let right = know(file, function, right.get());
+            let left = know(around, left.get());
+            let right = know(around, right.get());
             let fits = both_fit(&left, &right);
             let strange = left.strange || right.strange;
             Known {
@@ -193,8 +197,8 @@ pub fn know(file: &CFile, function: &CFun, e: &CExpr) -> Known
             }
         }
         CExpr::Compare(_, left, right) => {
-            let left = know(file, function, left.get());
-            let right = know(file, function, right.get());
+            let left = know(around, left.get());
+            let right = know(around, right.get());
             let fits = both_fit(&left, &right);
             let strange = left.strange || right.strange;
             Known {
@@ -204,7 +208,7 @@ pub fn know(file: &CFile, function: &CFun, e: &CExpr) -> Known
             }
         }
         CExpr::Negate(operand) => {
-            let operand = know(file, function, operand.get());
+            let operand = know(around, operand.get());
             let fits = operand.fits && operand_fits(&operand.kind);
             Known {
                 kind: Some(CType::Int(true, 64)),
