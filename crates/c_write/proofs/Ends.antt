@@ -1,10 +1,10 @@
 -- Where a token ends: before a byte that no token has behind its first, and behind a bracket, a point or a `-` that stands alone.
-use Rattle.std.proofs.Common.{◌≡◌, ◌≢◌, ℕ, List, [], ◌∷◌, ◌++◌, Bool, true, false, not, ◌||◌, refl, sym, ◌∙◌, subst, inl, inr, arith, Contains, codes, bytes_eq}
+use Rattle.std.proofs.Common.{◌≡◌, ◌≢◌, ℕ, List, [], ◌∷◌, ◌++◌, Bool, true, false, not, ◌||◌, refl, sym, ◌∙◌, subst, inl, inr, ⊎_elim, ◌⊎◌, arith, Contains, codes, bytes_eq}
 use Rattle.std.specs.Prelude.{◌==◌}
 use Rattle.std.specs.Char.{is_ascii_alphanumeric}
 use Rattle.std.specs.List.{list_all}
-use Rattle.std.proofs.lemmas.Bool.{and_parts, or_parts, not-true, both_ways}
-use Rattle.std.proofs.lemmas.Bool.Decides.{nat_tests}
+use Rattle.std.proofs.lemmas.Bool.{and_parts, or_cases, or_left, or_parts, not-true, both_ways}
+use Rattle.std.proofs.lemmas.Bool.Decides.{Decides-eqb, nat_tests}
 use Rattle.std.proofs.lemmas.List.Elements.{All-contains, All-head, All-tail, All-weaker}
 use Rattle.std.proofs.lemmas.List.Folds.{list_all-append}
 use Rattle.std.proofs.lemmas.List.Sums.{AllPass-from_list_all, list_all-from_AllPass}
@@ -29,39 +29,61 @@ one_passes test spellings spelling all one =
 abbrev inside : ℕ → Bool
 inside byte = is_ascii_alphanumeric byte || (byte == 95) || (byte == 43) || (byte == 60) || (byte == 62) || (byte == 61)
 
--- whether there is a first byte, and a token may have each that follows
-abbrev rest_inside : List ℕ → Bool
-rest_inside [] = false
-rest_inside (first ∷ rest) = list_all inside rest
+-- whether there is a first byte, and each that follows passes the test
+abbrev rest_passes : (ℕ → Bool) → List ℕ → Bool
+rest_passes test [] = false
+rest_passes test (first ∷ rest) = list_all test rest
 
--- the bytes of identifiers and numbers are such
+-- what the bytes of identifiers and numbers pass, those behind the first do
+identifier_rest : (test : ℕ → Bool) → ((byte : ℕ) → IsIdentifierByte byte → test byte ≡ true) → (spelling : List ℕ) → IsIdentifier spelling → rest_passes test spelling ≡ true
+identifier_rest test each [] is = absurd is.begins
+identifier_rest test each (first ∷ rest) is =
+    list_all-from_AllPass test rest (All-weaker IsIdentifierByte (λ b. test b ≡ true) each rest (All-tail IsIdentifierByte first rest is.bytes))
+
+number_rest : (test : ℕ → Bool) → ((byte : ℕ) → IsDigit byte → test byte ≡ true) → (spelling : List ℕ) → IsNumber spelling → rest_passes test spelling ≡ true
+number_rest test each [] is = absurd (is.some refl)
+number_rest test each (first ∷ rest) is = list_all-from_AllPass test rest (All-weaker IsDigit (λ b. test b ≡ true) each rest (All-tail IsDigit first rest is.digits))
+
+-- so each token has behind its first byte only such as a token may have there
 identifier_byte_inside : (byte : ℕ) → IsIdentifierByte byte → inside byte ≡ true
 identifier_byte_inside byte is = grind (arith, nat_tests)
 
 digit_inside : (byte : ℕ) → IsDigit byte → inside byte ≡ true
 digit_inside byte is = grind (arith, nat_tests)
 
--- so an identifier, a number and each token has only such behind its first byte
-identifier_inside : (spelling : List ℕ) → IsIdentifier spelling → rest_inside spelling ≡ true
-identifier_inside [] is = absurd is.begins
-identifier_inside (first ∷ rest) is =
-    list_all-from_AllPass inside rest
-    (All-weaker IsIdentifierByte (λ b. inside b ≡ true) identifier_byte_inside rest (All-tail IsIdentifierByte first rest is.bytes))
+token_inside : (spelling : List ℕ) → IsToken spelling → rest_passes inside spelling ≡ true
+token_inside spelling (inl is) = identifier_rest inside identifier_byte_inside spelling is
+token_inside spelling (inr (inl is)) = number_rest inside digit_inside spelling is
+token_inside spelling (inr (inr is)) = contained_passes (rest_passes inside) marks spelling refl is
 
-number_inside : (spelling : List ℕ) → IsNumber spelling → rest_inside spelling ≡ true
-number_inside [] is = absurd (is.some refl)
-number_inside (first ∷ rest) is =
-    list_all-from_AllPass inside rest (All-weaker IsDigit (λ b. inside b ≡ true) digit_inside rest (All-tail IsDigit first rest is.digits))
+-- whether a byte isn't `+`
+abbrev no_plus : ℕ → Bool
+no_plus byte = not (byte == 43)
 
-token_inside : (spelling : List ℕ) → IsToken spelling → rest_inside spelling ≡ true
-token_inside spelling (inl is) = identifier_inside spelling is
-token_inside spelling (inr (inl is)) = number_inside spelling is
-token_inside spelling (inr (inr is)) = contained_passes rest_inside marks spelling refl is
+-- and it has no `+` there, if it isn't `++`
+identifier_byte_no_plus : (byte : ℕ) → IsIdentifierByte byte → no_plus byte ≡ true
+identifier_byte_no_plus byte is = grind (arith, nat_tests)
+
+digit_no_plus : (byte : ℕ) → IsDigit byte → no_plus byte ≡ true
+digit_no_plus byte is = grind (arith, nat_tests)
+
+abbrev no_plus_behind : List ℕ → Bool
+no_plus_behind spelling = rest_passes no_plus spelling || bytes_eq (codes "++") spelling
+
+token_no_plus : (spelling : List ℕ) → IsToken spelling → no_plus_behind spelling ≡ true
+token_no_plus spelling (inl is) = or_left (rest_passes no_plus spelling) (bytes_eq (codes "++") spelling) (identifier_rest no_plus identifier_byte_no_plus spelling is)
+token_no_plus spelling (inr (inl is)) = or_left (rest_passes no_plus spelling) (bytes_eq (codes "++") spelling) (number_rest no_plus digit_no_plus spelling is)
+token_no_plus spelling (inr (inr is)) = contained_passes no_plus_behind marks spelling refl is
 
 -- whether each token ends before these bytes: no token has the first of them behind its own first, and it is no `*`
 abbrev pub ends_token : List ℕ → Bool
 ends_token [] = false
 ends_token (byte ∷ bytes) = not (inside byte || (byte == 42))
+
+-- whether bytes begin with `+`
+abbrev pub begins_plus : List ℕ → Bool
+begins_plus [] = false
+begins_plus (byte ∷ bytes) = byte == 43
 
 -- more bytes may follow
 pub ends_token-append : (bytes more : List ℕ) → ends_token bytes ≡ true → ends_token (bytes ++ more) ≡ true
@@ -78,25 +100,68 @@ no_longer (first ∷ spelling) (byte ∷ more) rest ends some short long =
     let out = or_parts (inside byte) (byte == 42) (not-true (inside byte || (byte == 42)) ends)
     in both_ways (inside byte) out.0 here.0
 
--- nor do they begin a comment with it
-no_comment_before : (spelling behind rest : List ℕ) → ends_token behind ≡ true → IsToken spelling → spelling ++ behind ≢ codes "/*" ++ rest
-no_comment_before [] behind rest ends is e = let none = token_inside [] is in cc
-no_comment_before (first ∷ []) behind rest ends is e =
-    let same : behind ≡ 42 ∷ rest = cc in
-    let not_so : false ≡ true = subst (λ b. ends_token b ≡ true) same ends
-    in cc
-no_comment_before (first ∷ second ∷ more) behind rest ends is e =
+-- nor do a token and bytes that don't begin with `*` begin a comment
+no_comment_before : (spelling behind rest : List ℕ) → ((more : List ℕ) → behind ≢ 42 ∷ more) → IsToken spelling → spelling ++ behind ≢ codes "/*" ++ rest
+no_comment_before [] behind rest other is e = let none = token_inside [] is in cc
+no_comment_before (first ∷ []) behind rest other is e = other rest cc
+no_comment_before (first ∷ second ∷ more) behind rest other is e =
     let same : second ≡ 42 = cc in
     let here = and_parts (inside second) (list_all inside more) (token_inside (first ∷ second ∷ more) is) in
     let not_so : false ≡ true = subst (λ b. inside b ≡ true) same here.0
     in cc
 
--- so a token is the longest with which the bytes begin
-pub longest_before : (spelling behind : List ℕ) → IsToken spelling → ends_token behind ≡ true → IsLongest spelling behind
+-- so only `+` goes on with a `+`
+before_plus : (first : ℕ) (rest more : List ℕ) → codes "++" ≡ first ∷ rest ++ 43 ∷ more → first ∷ rest ≡ codes "+"
+before_plus first [] more e = cc
+before_plus first (second ∷ []) more e = cc
+before_plus first (second ∷ third ∷ rest) more e = cc
+
+goes_on_plus : (first : ℕ) (rest more : List ℕ) → IsToken (first ∷ rest ++ 43 ∷ more) → first ∷ rest ≡ codes "+"
+goes_on_plus first rest more is =
+    ⊎_elim
+    (λ none. let parts = and_parts (list_all no_plus rest) (list_all no_plus (43 ∷ more)) (sym (list_all-append no_plus rest (43 ∷ more)) ∙ none) in cc)
+    (λ same. before_plus first rest more ((bytes_eq-Decides (codes "++") (first ∷ rest ++ 43 ∷ more)).0 same))
+    (or_cases (list_all no_plus (rest ++ 43 ∷ more)) (bytes_eq (codes "++") (first ∷ rest ++ 43 ∷ more)) (token_no_plus (first ∷ rest ++ 43 ∷ more) is))
+
+no_longer_plus : (spelling more rest : List ℕ) → begins_plus (more ++ rest) ≡ true → more ≢ [] → spelling ≢ codes "+" → IsToken spelling → ¬ IsToken (spelling ++ more)
+no_longer_plus spelling [] rest plus some other short long = some refl
+no_longer_plus [] (byte ∷ more) rest plus some other short long = let e = token_inside [] short in cc
+no_longer_plus (first ∷ spelling) (byte ∷ more) rest plus some other short long =
+    other (goes_on_plus first spelling more (subst (λ b. IsToken (first ∷ spelling ++ b ∷ more)) ((Decides-eqb byte 43).0 plus) long))
+
+-- the bytes before which a token ends: those before which each does, and those that begin with `+`, if it isn't `+`
+abbrev pub EndsBefore : List ℕ → List ℕ → Type 0
+EndsBefore spelling bytes = (ends_token bytes ≡ true) ⊎ ((spelling ≢ codes "+") × (begins_plus bytes ≡ true))
+
+-- more bytes may follow
+begins_plus-append : (bytes more : List ℕ) → begins_plus bytes ≡ true → begins_plus (bytes ++ more) ≡ true
+begins_plus-append [] more e = cc
+begins_plus-append (byte ∷ bytes) more e = e
+
+pub EndsBefore-append : (spelling bytes more : List ℕ) → EndsBefore spelling bytes → EndsBefore spelling (bytes ++ more)
+EndsBefore-append spelling bytes more (inl ends) = inl (ends_token-append bytes more ends)
+EndsBefore-append spelling bytes more (inr (other, plus)) = inr (other, begins_plus-append bytes more plus)
+
+-- neither begins with `*`
+no_star : (spelling bytes : List ℕ) → EndsBefore spelling bytes → (more : List ℕ) → bytes ≢ 42 ∷ more
+no_star spelling bytes (inl ends) more e =
+    let not_so : false ≡ true = subst (λ b. ends_token b ≡ true) e ends
+    in cc
+no_star spelling bytes (inr (other, plus)) more e =
+    let not_so : false ≡ true = subst (λ b. begins_plus b ≡ true) e plus
+    in cc
+
+-- nor does a token go on with them
+ends_there : (spelling more rest : List ℕ) → EndsBefore spelling (more ++ rest) → more ≢ [] → IsToken spelling → ¬ IsToken (spelling ++ more)
+ends_there spelling more rest (inl ends) some is = no_longer spelling more rest ends some is
+ends_there spelling more rest (inr (other, plus)) some is = no_longer_plus spelling more rest plus some other is
+
+-- so it is the longest with which the bytes begin
+pub longest_before : (spelling behind : List ℕ) → IsToken spelling → EndsBefore spelling behind → IsLongest spelling behind
 longest_before spelling behind is ends = record {
   token = is;
-  longest = λ more rest e some. no_longer spelling more rest (subst (λ b. ends_token b ≡ true) e ends) some is;
-  no_comment = λ rest. no_comment_before spelling behind rest ends is;
+  longest = λ more rest e some. ends_there spelling more rest (subst (EndsBefore spelling) e ends) some is;
+  no_comment = λ rest. no_comment_before spelling behind rest (no_star spelling behind ends) is;
 }
 
 -- whether this is `(`, `[`, `.` or `-`

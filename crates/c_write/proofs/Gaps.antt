@@ -1,8 +1,8 @@
 -- The blanks before a token are spaces and line feeds, and each token ends where they begin.
-use Rattle.std.proofs.Common.{◌≡◌, ◌≢◌, ◌⊎◌, ℕ, ◌-◌, ◌*◌, List, [], ◌∷◌, ◌++◌, map, replicate, Bool, true, false, ◌||◌, refl, ap, inl, inr, ⊎_elim, All, codes, bytes_eq}
+use Rattle.std.proofs.Common.{◌≡◌, ◌≢◌, ◌⊎◌, ℕ, ◌-◌, ◌*◌, List, [], ◌∷◌, ◌++◌, map, replicate, Bool, true, false, ◌||◌, refl, ap, subst, inl, inr, ⊎_elim, All, codes, bytes_eq}
 use Rattle.std.specs.Prelude.{◌==◌, if◌then◌else◌}
-use Rattle.std.specs.List.{flat_map, list_all}
-use Rattle.std.proofs.lemmas.Bool.{cond_both, cases_Bool, both_ways, or_left, or_right}
+use Rattle.std.specs.List.{flat_map}
+use Rattle.std.proofs.lemmas.Bool.{cond_both, cases_Bool, both_ways, or_cases, or_left, or_right}
 use Rattle.std.proofs.lemmas.List.Elements.{All-nil, All-cons, All-map, All-weaker, All-replicate}
 use Rattle.c_tree.specs.Flat.{Lexeme}
 use Rattle.c_tree.specs.Words.{IsToken}
@@ -11,7 +11,7 @@ use Rattle.c_write.specs.declared.layout.After.{After}
 use Rattle.c_write.specs.declared.layout.After.TheVariants.{Nothing, Line, Block, Bracket, Spaced, Other}
 use Rattle.c_write.specs.declared.layout.Place.{Place}
 use Rattle.c_write.specs.Layout.{is_one_of, opening, closing, applying, is_sign, keywords, operators, comparisons, after_token, next_depth, moved, new_line, space_before, gap_after, laid}
-use Rattle.c_write.proofs.Ends.{one_passes, ends_token, ends_token-append, longest_before, longest_tight}
+use Rattle.c_write.proofs.Ends.{one_passes, ends_token, begins_plus, ends_token-append, EndsBefore, EndsBefore-append, longest_before, longest_tight}
 
 -- a space or a line feed
 abbrev pub IsSpace : ℕ → Type 0
@@ -69,52 +69,71 @@ gap_spaces Bracket depth next = All-nil IsSpace
 gap_spaces Spaced depth next = space_before_spaces closing next
 gap_spaces Other depth next = space_before_spaces (closing ++ applying) next
 
--- each token ends before a mark before which there is no space, and before a space
-tight_ends : (tight : List (List ℕ)) (next more : List ℕ) → list_all ends_token tight ≡ true → ends_token (space_before tight next ++ next ++ more) ≡ true
-tight_ends tight next more all =
-    cond_both (is_one_of tight next) [] (32 ∷ []) (λ space. ends_token (space ++ next ++ more) ≡ true)
-    (λ e. ends_token-append next more (one_passes ends_token tight next all e))
+-- each token ends before a mark that closes, and before a space
+closing_ends : (next more : List ℕ) → ends_token (space_before closing next ++ next ++ more) ≡ true
+closing_ends next more =
+    cond_both (is_one_of closing next) [] (32 ∷ []) (λ space. ends_token (space ++ next ++ more) ≡ true)
+    (λ e. ends_token-append next more (one_passes ends_token closing next refl e))
     (λ e. refl)
 
+-- each but `+` ends before a mark that follows a name too
+applying_ends : (spelling next more : List ℕ) → spelling ≢ codes "+" → EndsBefore spelling (space_before (closing ++ applying) next ++ next ++ more)
+applying_ends spelling next more other =
+    cond_both (is_one_of (closing ++ applying) next) [] (32 ∷ []) (λ space. EndsBefore spelling (space ++ next ++ more))
+    (λ e. EndsBefore-append spelling next more
+    (⊎_elim inl (λ plus. inr (other, plus)) (or_cases (ends_token next) (begins_plus next) (one_passes (λ mark. ends_token mark || begins_plus mark) (closing ++ applying) next refl e))))
+    (λ e. inl refl)
+
 -- each token ends before the blanks and the token behind it, but at the beginning and behind `(`, `[` and `.`
-gap_ends : (after : After) (depth : ℕ) (next more : List ℕ) → after ≢ Nothing → after ≢ Bracket → ends_token (gap_after after depth next ++ next ++ more) ≡ true
-gap_ends Nothing depth next more some other = absurd (some refl)
-gap_ends Line depth next more some other = refl
-gap_ends Block depth next more some other =
-    block_gap depth next (λ blanks. ends_token (blanks ++ next ++ more) ≡ true)
+gap_ends : (after : After) (depth : ℕ) (spelling next more : List ℕ) → after ≢ Nothing → after ≢ Bracket → (after ≡ Other → spelling ≢ codes "+") → EndsBefore spelling (gap_after after depth next ++ next ++ more)
+gap_ends Nothing depth spelling next more some beside plus = absurd (some refl)
+gap_ends Line depth spelling next more some beside plus = inl refl
+gap_ends Block depth spelling next more some beside plus =
+    inl (block_gap depth next (λ blanks. ends_token (blanks ++ next ++ more) ≡ true)
     (λ e. ends_token-append next more (one_passes ends_token (codes ";" ∷ []) next refl (or_left (bytes_eq (codes ";") next) false e)))
-    refl refl refl
-gap_ends Bracket depth next more some other = absurd (other refl)
-gap_ends Spaced depth next more some other = tight_ends closing next more refl
-gap_ends Other depth next more some other = tight_ends (closing ++ applying) next more refl
+    refl refl refl)
+gap_ends Bracket depth spelling next more some beside plus = absurd (beside refl)
+gap_ends Spaced depth spelling next more some beside plus = inl (closing_ends next more)
+gap_ends Other depth spelling next more some beside plus = applying_ends spelling next more (plus refl)
 
--- by four tests nothing is never chosen, and a bracket only where the third passes
-chosen : (block line bracket space : Bool) → let after = if block then Block else if line then Line else if bracket then Bracket else if space then Spaced else Other in (after ≢ Nothing) × (after ≡ Bracket → bracket ≡ true)
-chosen true line bracket space = (λ e. cc, λ e. cc)
-chosen false true bracket space = (λ e. cc, λ e. cc)
-chosen false false true space = (λ e. cc, λ e. refl)
-chosen false false false true = (λ e. cc, λ e. cc)
-chosen false false false false = (λ e. cc, λ e. cc)
+-- by six tests nothing is never chosen, a bracket only where the fifth passes, and another token only where the last doesn't
+chosen : (block brace line in_head bracket space : Bool) → let after = if block then Block else if brace then Line else if line then (if in_head then Spaced else Line) else if bracket then Bracket else if space then Spaced else Other in (after ≢ Nothing) × (after ≡ Bracket → bracket ≡ true) × (after ≡ Other → space ≡ false)
+chosen true brace line in_head bracket space = (λ e. cc, λ e. cc, λ e. cc)
+chosen false true line in_head bracket space = (λ e. cc, λ e. cc, λ e. cc)
+chosen false false true true bracket space = (λ e. cc, λ e. cc, λ e. cc)
+chosen false false true false bracket space = (λ e. cc, λ e. cc, λ e. cc)
+chosen false false false in_head true space = (λ e. cc, λ e. refl, λ e. cc)
+chosen false false false in_head false true = (λ e. cc, λ e. cc, λ e. cc)
+chosen false false false in_head false false = (λ e. cc, λ e. cc, λ e. refl)
 
--- whether nothing stands behind a token on its line
+-- whether nothing stands behind a token on its line, and whether a space does
 abbrev is_tight : After → List ℕ → Bool
 is_tight before spelling = is_sign before spelling || is_one_of opening spelling
 
--- so a token is never nothing, and it is such a bracket only where it is `(`, `[`, `.` or a sign
-token_chosen : (before : After) (spelling : List ℕ) → (after_token before spelling ≢ Nothing) × (after_token before spelling ≡ Bracket → is_tight before spelling ≡ true)
-token_chosen before spelling =
-    chosen (bytes_eq (codes "}") spelling) (is_one_of (codes ";" ∷ codes "{" ∷ []) spelling) (is_tight before spelling) (is_one_of keywords spelling || is_one_of operators spelling || is_one_of comparisons spelling)
+abbrev is_spaced : List ℕ → Bool
+is_spaced spelling = is_one_of keywords spelling || is_one_of operators spelling || is_one_of comparisons spelling
+
+-- so a token is never nothing, it is such a bracket only where it is `(`, `[`, `.` or a sign, and another only where it has no space
+token_chosen : (place : Place) (spelling : List ℕ) → let after = after_token place spelling in (after ≢ Nothing) × (after ≡ Bracket → is_tight place.after spelling ≡ true) × (after ≡ Other → is_spaced spelling ≡ false)
+token_chosen place spelling =
+    chosen (bytes_eq (codes "}") spelling) (bytes_eq (codes "{") spelling) (bytes_eq (codes ";") spelling) place.in_head (is_tight place.after spelling) (is_spaced spelling)
+
+-- a token with no space behind it is no `+`
+not_spaced : (spelling : List ℕ) → is_spaced spelling ≡ false → spelling ≢ codes "+"
+not_spaced spelling none e =
+    let not_so : true ≡ false = subst (λ s. is_spaced s ≡ false) e none
+    in cc
 
 -- a token other than these ends before what is laid behind it
-behind_ends : (place : Place) (spelling : List ℕ) (tokens : List Lexeme) → is_tight place.after spelling ≡ false → ends_token (laid (moved place spelling) tokens ++ codes "\n") ≡ true
-behind_ends place spelling [] other = refl
+behind_ends : (place : Place) (spelling : List ℕ) (tokens : List Lexeme) → is_tight place.after spelling ≡ false → EndsBefore spelling (laid (moved place spelling) tokens ++ codes "\n")
+behind_ends place spelling [] other = inl refl
 behind_ends place spelling (token ∷ tokens) other =
-    let after = after_token place.after spelling in
+    let after = after_token place spelling in
     let depth = next_depth place.depth spelling in
     let more = laid (moved (moved place spelling) token.spelling) tokens in
-    let chosen_so = token_chosen place.after spelling
-    in ends_token-append (gap_after after depth token.spelling ++ token.spelling ++ more) (codes "\n")
-    (gap_ends after depth token.spelling more chosen_so.0 (λ e. both_ways (is_tight place.after spelling) other (chosen_so.1 e)))
+    let chosen_so = token_chosen place spelling
+    in EndsBefore-append spelling (gap_after after depth token.spelling ++ token.spelling ++ more) (codes "\n")
+    (gap_ends after depth spelling token.spelling more chosen_so.0 (λ e. both_ways (is_tight place.after spelling) other (chosen_so.1 e)) (λ e. not_spaced spelling (chosen_so.2 e)))
 
 -- then it is one of these marks
 tight_one : (before : After) (spelling : List ℕ) → is_tight before spelling ≡ true → is_one_of (codes "-" ∷ opening) spelling ≡ true

@@ -189,8 +189,18 @@ stmt_plain s = ind-CStmt Plain (λ x y same. subst (λ z. Plain (roll-CStmt z)) 
     layer (stmt.If test chosen None) = of_layer (stmt.If test (map first chosen) None) (join (tested test chosen) (plain []))
     layer (stmt.If test chosen (Some other)) =
         of_layer (stmt.If test (map first chosen) (Some (map first other))) (join (tested test chosen) (join (plain (codes "else" ∷ [])) (block other)))
+    layer (stmt.Loop body) = of_layer (stmt.Loop (map first body)) (join (plain (codes "while" ∷ codes "(" ∷ codes "1" ∷ codes ")" ∷ [])) (block body))
+    layer (stmt.Count set tested count raised body) =
+        of_layer (stmt.Count set tested count raised (map first body))
+        (join
+        (plain
+        (codes "for" ∷ codes "(" ∷ set ∷ codes "=" ∷ codes "INT64_C" ∷ codes "(" ∷ codes "0" ∷ codes ")" ∷ codes ";"
+        ∷ tested ∷ codes "<" ∷ decimal count ∷ codes ";" ∷ raised ∷ codes "++" ∷ codes ")" ∷ []))
+        (block body))
+    layer stmt.Break = of_layer stmt.Break (plain (codes "break" ∷ codes ";" ∷ []))
     layer (stmt.Return value) = of_layer (stmt.Return value) (join (join (plain (codes "return" ∷ [])) (returned_plain value)) (plain (codes ";" ∷ [])))
     layer (stmt.Put e) = of_layer (stmt.Put e) (join (join (plain (codes "sl_put" ∷ codes "(" ∷ [])) (expr_plain e)) (plain (codes ")" ∷ codes ";" ∷ [])))
+    layer (stmt.Get place) = of_layer (stmt.Get place) (join (place_plain place) (plain (codes "=" ∷ codes "sl_get" ∷ codes "(" ∷ codes ")" ∷ codes ";" ∷ [])))
     layer (stmt.Halt kind file line) =
         of_layer (stmt.Halt kind file line) (plain (codes "sl_halt" ∷ codes "(" ∷ decimal kind ∷ codes "," ∷ decimal file ∷ codes "," ∷ decimal line ∷ codes ")" ∷ codes ";" ∷ []))
 

@@ -32,8 +32,9 @@ use Rattle.c_tree.specs.declared.tree.CExpr.{CExpr, CExpr-F, ind-CExpr, map-CExp
 use Rattle.c_tree.specs.declared.tree.CExpr.TheOpen as expr
 use Rattle.c_tree.specs.Words.{IsIdentifierByte, IsDigit, IsIdentifier, marks, IsToken, IsName}
 use Rattle.c_tree.specs.Flat.{Lexeme, lexeme, lexemes, type_name, flat_typed, flat_var, flat_count, flat_choice, flat_member, flat_struct, flat_global, flat_params, flat_inline, flat_head, flat_proto, const_word, operator_mark, comparison_mark, flat_place, flat_expr, flat_expr_step, flat_argument, flat_arguments, flat_target, flat_block, flat_returned, flat_stmt, flat_stmt_step, flat_function, cflat}
-use Rattle.c_tree.specs.Parts.{Leaf, Constant, Reads, leaves, leaves_step, Action, Assigns, Calls, Tests, Returns, Puts, Halts, actions, actions_step, argument_of, arguments_of, joined}
+use Rattle.c_tree.specs.Parts.{Leaf, Constant, Reads, leaves, leaves_step, Action, Assigns, Calls, Tests, Returns, Puts, Gets, Loops, Counts, Halts, actions, actions_step, argument_of, arguments_of, joined}
 use Rattle.c_tree.specs.WellFormed.{IsWidth, IsInteger, IsWord, IsResult, IsVar, IsParam, IsChoice, IsMember, IsStruct, IsHead, IsProto, IsPlace, IsLeaf, IsExpr, IsAction, IsStmt, IsFunction, IsWellFormed}
+use Rattle.c_write.specs.Written.{flat_for}
 use Rattle.c_tree.proofs.Layers.{flat_expr_layer, flat_stmt_layer, leaves_layer, actions_layer}
 
 -- Spellings -----------------------------------------------------------------------------------------------------------
@@ -69,6 +70,10 @@ fixed_is spelling passed =
     let at_some = Decides-by_or is_it (λ mark. mark ≡ spelling) (list_any is_it) (λ mark. bytes_eq-Decides mark spelling) refl (λ _ _. refl) marks in
     let decides = Decides-contains marks spelling (list_any is_it marks) at_some
     in ⊎_elim (λ word. inl (word_is spelling word)) (λ mark. inr (inr (decides.0 mark))) (or_cases (is_word spelling) (list_any is_it marks) passed)
+
+-- so is a digit
+digit_is : (byte : ℕ) → IsDigit byte → IsToken (byte ∷ [])
+digit_is byte is = inr (inl (record { digits = All-cons IsDigit byte [] is (All-nil IsDigit); some = λ e. cc }))
 
 -- the number of a constant or a count, as it is written, is a token
 decimal_is : (n : ℕ) → n < 2 ^ 64 → IsToken (decimal n)
@@ -292,6 +297,20 @@ target_tokens : (target : Option CPlace) → IfSome target IsPlace → AreTokens
 target_tokens None is = no_tokens
 target_tokens (Some place) is = join (place_tokens place is) (fixed (codes "=" ∷ []) refl)
 
+-- a `for` up to its block
+for_tokens : (set tested : List ℕ) (count : ℕ) (raised : List ℕ) → IsAction (Counts set tested raised count) → AreTokens (flat_for set tested count raised)
+for_tokens set tested count raised is =
+    join (fixed (codes "for" ∷ codes "(" ∷ []) refl)
+    (next (name_is set is.0)
+    (join (fixed (codes "=" ∷ codes "INT64_C" ∷ codes "(" ∷ []) refl)
+    (next (digit_is 48 refl)
+    (join (fixed (codes ")" ∷ codes ";" ∷ []) refl)
+    (next (name_is tested is.1)
+    (next (fixed_is (codes "<") refl)
+    (next (decimal_is count (let small = is.3 in omega arith))
+    (next (fixed_is (codes ";") refl)
+    (next (name_is raised is.2) (fixed (codes "++" ∷ codes ")" ∷ []) refl))))))))))
+
 -- what is returned
 returned_tokens : (value : Option CExpr) → IfSome value IsExpr → AreTokens (flat_returned value)
 returned_tokens None is = no_tokens
@@ -336,6 +355,11 @@ stmt_tokens s = ind-CStmt Good (λ x y same. subst (λ z. Good (roll-CStmt z)) s
     block : (stmts : List Known) → All IsAction (joined (map actions (map first stmts))) → AreTokens (flat_block (map flat_stmt (map first stmts)))
     block stmts is = join (join (fixed (codes "{" ∷ []) refl) (inner stmts is)) (fixed (codes "}" ∷ []) refl)
 
+    looped : (head : Action) (body : List Known) {tokens : List Lexeme} → (IsAction head → AreTokens tokens) → All IsAction (head ∷ joined (map actions (map first body))) → AreTokens (tokens ++ flat_block (map flat_stmt (map first body)))
+    looped head body front is =
+        let inside = joined (map actions (map first body))
+        in join (front (All-head IsAction head inside is)) (block body (All-tail IsAction head inside is))
+
     tested : (test : CExpr) (chosen : List Known) (rest : List Action) {tokens : List Lexeme} → (All IsAction rest → AreTokens tokens) → All IsAction (Tests test ∷ joined (map actions (map first chosen)) ++ rest) → AreTokens (lexemes (codes "if" ∷ codes "(" ∷ []) ++ flat_expr test ++ lexemes (codes ")" ∷ []) ++ flat_block (map flat_stmt (map first chosen)) ++ tokens)
     tested test chosen rest other is =
         let inside = joined (map actions (map first chosen)) in
@@ -354,10 +378,17 @@ stmt_tokens s = ind-CStmt Good (λ x y same. subst (λ z. Good (roll-CStmt z)) s
     layer (stmt.If test chosen (Some other)) =
         of_layer (stmt.If test (map first chosen) (Some (map first other)))
         (tested test chosen (joined (map actions (map first other))) (λ is. join (fixed (codes "else" ∷ []) refl) (block other is)))
+    layer (stmt.Loop body) =
+        of_layer (stmt.Loop (map first body)) (looped Loops body (λ is. join (fixed (codes "while" ∷ codes "(" ∷ []) refl) (next (digit_is 49 refl) (fixed (codes ")" ∷ []) refl))))
+    layer (stmt.Count set tested count raised body) =
+        of_layer (stmt.Count set tested count raised (map first body)) (looped (Counts set tested raised count) body (for_tokens set tested count raised))
+    layer stmt.Break = of_layer stmt.Break (λ is. fixed (codes "break" ∷ codes ";" ∷ []) refl)
     layer (stmt.Return value) =
         of_one (stmt.Return value) (Returns value) refl (λ is. join (join (fixed (codes "return" ∷ []) refl) (returned_tokens value is)) (fixed (codes ";" ∷ []) refl))
     layer (stmt.Put e) =
         of_one (stmt.Put e) (Puts e) refl (λ is. join (join (fixed (codes "sl_put" ∷ codes "(" ∷ []) refl) (expr_tokens e is)) (fixed (codes ")" ∷ codes ";" ∷ []) refl))
+    layer (stmt.Get place) =
+        of_one (stmt.Get place) (Gets place) refl (λ is. join (place_tokens place is) (fixed (codes "=" ∷ codes "sl_get" ∷ codes "(" ∷ codes ")" ∷ codes ";" ∷ []) refl))
     layer (stmt.Halt kind file line) = of_one (stmt.Halt kind file line) (Halts kind file line) refl (halt_tokens kind file line)
 
 -- a function

@@ -1,5 +1,5 @@
 -- The text that the writer gives a tree: the blanks before each token, by what stands before it.
-use Rattle.std.specs.Prelude.{ℕ, ◌+◌, ◌-◌, ◌*◌, ◌^◌, List, [], ◌∷◌, ◌++◌, Bool, false, ◌||◌, ◌==◌, min, replicate, if◌then◌else◌, codes}
+use Rattle.std.specs.Prelude.{ℕ, ◌+◌, ◌-◌, ◌*◌, ◌^◌, List, [], ◌∷◌, ◌++◌, Bool, true, false, ◌||◌, ◌==◌, min, replicate, if◌then◌else◌, codes}
 use Rattle.std.specs.List.{list_any}
 use Rattle.std.specs.Str.{bytes_eq}
 use Rattle.c_tree.specs.declared.tree.CFile.{CFile}
@@ -21,9 +21,9 @@ opening = codes "(" ∷ codes "[" ∷ codes "." ∷ []
 abbrev pub closing : List (List ℕ)
 closing = codes ")" ∷ codes "]" ∷ codes ";" ∷ codes "," ∷ codes "." ∷ []
 
--- the brackets that follow a name directly
+-- the marks that follow a name directly
 abbrev pub applying : List (List ℕ)
-applying = codes "(" ∷ codes "[" ∷ []
+applying = codes "(" ∷ codes "[" ∷ codes "++" ∷ []
 
 -- whether this is a sign, behind which nothing stands on its line: a `-` behind a bracket that opens
 abbrev pub is_sign : After → List ℕ → Bool
@@ -41,12 +41,13 @@ operators = codes "," ∷ codes "=" ∷ codes "+" ∷ codes "-" ∷ codes "*" �
 abbrev pub comparisons : List (List ℕ)
 comparisons = codes "<" ∷ codes "<=" ∷ codes ">" ∷ codes ">=" ∷ codes "==" ∷ codes "!=" ∷ []
 
--- what a token is, as far as the blanks behind it depend on it, by what stands before it
-abbrev pub after_token : After → List ℕ → After
-after_token before spelling =
+-- what a token is, as far as the blanks behind it depend on it, by where it stands: a `;` ends a line, but in the head of a `for`
+abbrev pub after_token : Place → List ℕ → After
+after_token place spelling =
     if bytes_eq (codes "}") spelling then Block
-    else if is_one_of (codes ";" ∷ codes "{" ∷ []) spelling then Line
-    else if is_sign before spelling || is_one_of opening spelling then Bracket
+    else if bytes_eq (codes "{") spelling then Line
+    else if bytes_eq (codes ";") spelling then (if place.in_head then Spaced else Line)
+    else if is_sign place.after spelling || is_one_of opening spelling then Bracket
     else if is_one_of keywords spelling || is_one_of operators spelling || is_one_of comparisons spelling then Spaced
     else Other
 
@@ -57,13 +58,20 @@ next_depth depth spelling =
     else if bytes_eq (codes "}") spelling then depth - 1
     else depth
 
+-- whether the head of a `for` is open behind a token: it goes on up to the brace
+abbrev pub next_head : Bool → List ℕ → Bool
+next_head in_head spelling =
+    if bytes_eq (codes "for") spelling then true
+    else if bytes_eq (codes "{") spelling then false
+    else in_head
+
 -- before the first token
 abbrev pub first_place : Place
-first_place = record { after = Nothing; depth = 0 }
+first_place = record { after = Nothing; depth = 0; in_head = false }
 
 -- behind a token
 abbrev pub moved : Place → List ℕ → Place
-moved place spelling = record { after = after_token place.after spelling; depth = next_depth place.depth spelling }
+moved place spelling = record { after = after_token place spelling; depth = next_depth place.depth spelling; in_head = next_head place.in_head spelling }
 
 -- a new line with four spaces for each open brace, but for the one that the token closes
 abbrev pub new_line : ℕ → List ℕ → List ℕ

@@ -1,10 +1,18 @@
 -- The writer as a list of bytes and a place: what it has after some tokens.
-use Rattle.std.specs.Prelude.{◌≡◌, List, [], ◌∷◌, ◌++◌, Result, Ok, Err}
+use Rattle.std.specs.Prelude.{◌≡◌, ℕ, List, [], ◌∷◌, ◌++◌, Result, Ok, Err, codes}
+use Rattle.std.specs.Fmt.{decimal}
 use Rattle.sl_text.specs.declared.fault.Mem.{Mem}
-use Rattle.c_tree.specs.Flat.{Lexeme}
+use Rattle.c_tree.specs.Flat.{Lexeme, lexemes}
 use Rattle.c_write.specs.declared.layout.Place.{Place}
 use Rattle.c_write.specs.declared.layout.Writer.{Writer}
 use Rattle.c_write.specs.Layout.{moved, laid}
+
+-- the tokens of a `for` up to its block
+abbrev pub flat_for : List ℕ → List ℕ → ℕ → List ℕ → List Lexeme
+flat_for set tested count raised =
+    lexemes
+    (codes "for" ∷ codes "(" ∷ set ∷ codes "=" ∷ codes "INT64_C" ∷ codes "(" ∷ codes "0" ∷ codes ")" ∷ codes ";"
+    ∷ tested ∷ codes "<" ∷ decimal count ∷ codes ";" ∷ raised ∷ codes "++" ∷ codes ")" ∷ [])
 
 -- where the writer stands behind tokens
 abbrev pub behind_all : Place → List Lexeme → Place

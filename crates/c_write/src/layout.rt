@@ -1,7 +1,7 @@
 // Where tokens stand: the blanks before each.
 ghost use Rattle.std.specs.Prelude.{◌≡◌, ◌++◌, ◌∷◌, [], OnOk, map, if◌then◌else◌};
 ghost use Rattle.c_tree.specs.Flat.{lexemes};
-ghost use Rattle.c_write.specs.Layout.{first_place, gap, is_one_of, opening, closing, applying, is_sign, keywords, operators, comparisons, new_line, space_before, after_token, next_depth};
+ghost use Rattle.c_write.specs.Layout.{first_place, gap, is_one_of, opening, closing, applying, is_sign, keywords, operators, comparisons, new_line, space_before, after_token, next_depth, next_head};
 ghost use Rattle.c_write.specs.Written.{Writes};
 
 use sl_text::Mem;
@@ -24,11 +24,12 @@ pub enum After {
     Other,
 }
 
-/// Where the writer stands: what was written last, and how many braces are open.
+/// Where the writer stands: what was written last, how many braces are open, and whether the head of a `for` is.
 #[derive(Clone, Copy, Debug, PartialEq, Eq)]
 pub struct Place {
     pub after: After,
     pub depth: u32,
+    pub in_head: bool,
 }
 
 /// The bytes that were written, and where that ends.
@@ -49,6 +50,7 @@ impl Writer {
             place: Place {
                 after: After::Nothing,
                 depth: 0,
+                in_head: false,
             },
         }
     }
@@ -79,8 +81,9 @@ impl Writer {
         self.blanks(spelling)?;
         self.put(spelling)?;
         self.place = Place {
-            after: after_token(self.place.after, spelling),
+            after: after_token(self.place, spelling),
             depth: next_depth(self.place.depth, spelling),
+            in_head: next_head(self.place.in_head, spelling),
         };
         Ok(())
     }
@@ -128,15 +131,17 @@ impl Writer {
     }
 }
 
-/// What a token is, as far as the blanks behind it depend on it, by what stands before it.
-fn after_token(before: After, spelling: &[u8]) -> After
-    ensures { result ≡ after_token before spelling.now }
+/// What a token is, as far as the blanks behind it depend on it, by where it stands.
+fn after_token(place: Place, spelling: &[u8]) -> After
+    ensures { result ≡ after_token place spelling.now }
 {
     match spelling {
         b"}" => After::Block,
-        b";" | b"{" => After::Line,
+        b"{" => After::Line,
+        b";" if place.in_head => After::Spaced,
+        b";" => After::Line,
         b"(" | b"[" | b"." => After::Bracket,
-        _ if is_sign(before, spelling) => After::Bracket,
+        _ if is_sign(place.after, spelling) => After::Bracket,
         _ if is_keyword(spelling) || is_operator(spelling) || is_comparison(spelling) =>
             After::Spaced,
         _ => After::Other,
@@ -182,6 +187,17 @@ fn next_depth(depth: u32, spelling: &[u8]) -> u32
     }
 }
 
+/// Whether the head of a `for` is open behind a token.
+fn next_head(in_head: bool, spelling: &[u8]) -> bool
+    ensures { result ≡ next_head in_head spelling.now }
+{
+    match spelling {
+        b"for" => true,
+        b"{" => false,
+        _ => in_head,
+    }
+}
+
 /// Whether nothing stands before this token on its line.
 fn is_closing(token: &[u8]) -> bool
     ensures { result ≡ is_one_of closing token.now }
@@ -193,5 +209,5 @@ fn is_closing(token: &[u8]) -> bool
 fn is_applying(token: &[u8]) -> bool
     ensures { result ≡ is_one_of applying token.now }
 {
-    matches!(token, b"(" | b"[")
+    matches!(token, b"(" | b"[" | b"++")
 }

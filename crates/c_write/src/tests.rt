@@ -48,6 +48,12 @@ const BRANCHING: &[u8] = b"static int64_t sl_main(void) {
         }
         y = (x + UINT64_C(1));
     } else {
+        while (1) {
+            for (x = INT64_C(0); x < 20; x++) {
+                y = sl_get();
+            }
+            break;
+        }
         if ((int64_t)(x == y)) {
         }
         sl_halt(1, 2, 34);
@@ -245,31 +251,49 @@ fn inner_of(alloc: Global) -> Result<CStmt, Fail> {
     Ok(CStmt::If(read(alloc, "x")?, chosen, Some(other)))
 }
 
-/// That, and an assignment.
-fn chosen_of(alloc: Global) -> Result<Row<CStmt>, Fail> {
-    let inner = inner_of(alloc)?;
-    let more = binary(
-        alloc,
-        read(alloc, "x")?,
-        CBinary::Add,
-        CExpr::Const(false, 1),
-    )?;
-    two(alloc, inner, assign(alloc, "y", more)?)
+/// `y = (x + UINT64_C(1));`
+fn more_of(alloc: Global) -> Result<CStmt, Fail> {
+    let left = read(alloc, "x")?;
+    let more = binary(alloc, left, CBinary::Add, CExpr::Const(false, 1))?;
+    assign(alloc, "y", more)
 }
 
-/// An `if` with an empty block, and a halt.
+/// Both.
+fn chosen_of(alloc: Global) -> Result<Row<CStmt>, Fail> {
+    let inner = inner_of(alloc)?;
+    two(alloc, inner, more_of(alloc)?)
+}
+
+/// A loop that goes round once, with a counted loop in it.
+fn loop_of(alloc: Global) -> Result<CStmt, Fail> {
+    let rounds = one(alloc, CStmt::Get(place(alloc, "y")?))?;
+    let set = Text::from_str(alloc, "x")?;
+    let tested = Text::from_str(alloc, "x")?;
+    let raised = Text::from_str(alloc, "x")?;
+    let counted = CStmt::Count(set, tested, 20, raised, rounds);
+    Ok(CStmt::Loop(two(alloc, counted, CStmt::Break)?))
+}
+
+/// A loop, an `if` with an empty block, and a halt.
 fn other_of(alloc: Global) -> Result<Row<CStmt>, Fail> {
     let left = read(alloc, "x")?;
     let same = compare(alloc, left, Comparison::Equal, read(alloc, "y")?)?;
     let empty = CStmt::If(same, Row::new(alloc), None);
-    two(alloc, empty, CStmt::Halt(1, 2, 34))
+    let mut stmts = two(alloc, loop_of(alloc)?, empty)?;
+    stmts.push(CStmt::Halt(1, 2, 34))?;
+    Ok(stmts)
+}
+
+/// `(int64_t)((x * y) <= (-y))`
+fn test_of(alloc: Global) -> Result<CExpr, Fail> {
+    let product = pair(alloc, CBinary::Mul)?;
+    let negative = negate(alloc, read(alloc, "y")?)?;
+    compare(alloc, product, Comparison::LessEqual, negative)
 }
 
 /// An `if` with these blocks.
 fn outer_of(alloc: Global) -> Result<CStmt, Fail> {
-    let product = pair(alloc, CBinary::Mul)?;
-    let negative = negate(alloc, read(alloc, "y")?)?;
-    let test = compare(alloc, product, Comparison::LessEqual, negative)?;
+    let test = test_of(alloc)?;
     let chosen = chosen_of(alloc)?;
     Ok(CStmt::If(test, chosen, Some(other_of(alloc)?)))
 }
@@ -280,12 +304,18 @@ fn return_of(alloc: Global) -> Result<CStmt, Fail> {
     Ok(CStmt::Return(Some(negate(alloc, negative)?)))
 }
 
-/// A file with a function whose statements nest.
-fn branching_of(alloc: Global) -> Result<CFile, Fail> {
+/// Statements that nest.
+fn body_of(alloc: Global) -> Result<Row<CStmt>, Fail> {
     let first = assign(alloc, "x", CExpr::Const(true, 7))?;
     let mut body = two(alloc, first, sum_of(alloc)?)?;
     body.push(outer_of(alloc)?)?;
     body.push(return_of(alloc)?)?;
+    Ok(body)
+}
+
+/// A file with a function of these.
+fn branching_of(alloc: Global) -> Result<CFile, Fail> {
+    let body = body_of(alloc)?;
     Ok(CFile {
         structs: Row::new(alloc),
         globals: Row::new(alloc),

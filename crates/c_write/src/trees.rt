@@ -4,12 +4,12 @@
 ghost use Rattle.std.specs.Prelude.{◌≡◌, ◌∷◌, [], map};
 ghost use Rattle.c_tree.specs.Flat.{cflat, lexemes, type_name, flat_typed, flat_var, flat_count, flat_choice, flat_member, flat_struct, flat_global, flat_params, flat_inline, flat_head, flat_proto, const_word, operator_mark, comparison_mark, flat_place, flat_expr, flat_argument, flat_arguments, flat_target, flat_block, flat_returned, flat_stmt, flat_function};
 ghost use Rattle.c_tree.specs.declared.tree.CStmt.TheVariants.{Halt};
-ghost use Rattle.c_write.specs.Written.{Writes};
+ghost use Rattle.c_write.specs.Written.{flat_for, Writes};
 
 use crate::layout::Writer;
 use c_tree::{CArg, CBinary, CExpr, CFile, CFun, CMember, CPlace, CStmt, CStruct, CType, CVar};
 use sl_num::Comparison;
-use sl_text::Mem;
+use sl_text::{Mem, Text};
 use std::alloc::Global;
 
 pub fn write_file(alloc: Global, writer: &mut Writer, file: &CFile) -> Result<(), Mem>
@@ -183,6 +183,15 @@ fn write_stmt(alloc: Global, writer: &mut Writer, stmt: &CStmt) -> Result<(), Me
                 }
             }
         }
+        CStmt::Loop(body) => {
+            writer.tokens(&[b"while", b"(", b"1", b")"])?;
+            write_block(alloc, writer, body.as_slice())
+        }
+        CStmt::Count(set, tested, count, raised, body) => {
+            write_for(alloc, writer, set, tested, *count, raised)?;
+            write_block(alloc, writer, body.as_slice())
+        }
+        CStmt::Break => writer.tokens(&[b"break", b";"]),
         CStmt::Return(value) => {
             writer.token(b"return")?;
             write_returned(alloc, writer, value)?;
@@ -192,6 +201,10 @@ fn write_stmt(alloc: Global, writer: &mut Writer, stmt: &CStmt) -> Result<(), Me
             writer.tokens(&[b"sl_put", b"("])?;
             write_expr(alloc, writer, value)?;
             writer.tokens(&[b")", b";"])
+        }
+        CStmt::Get(place) => {
+            write_place(writer, place)?;
+            writer.tokens(&[b"=", b"sl_get", b"(", b")", b";"])
         }
         CStmt::Halt(kind, file, line) => write_halt(alloc, writer, *kind, *file, *line),
     }
@@ -206,6 +219,25 @@ fn write_block(alloc: Global, writer: &mut Writer, stmts: &[CStmt]) -> Result<()
         write_stmt(alloc, writer, stmt)?;
     }
     writer.token(b"}")
+}
+
+/// A `for` up to its block.
+fn write_for(
+    alloc: Global,
+    writer: &mut Writer,
+    set: &Text,
+    tested: &Text,
+    count: u32,
+    raised: &Text,
+) -> Result<(), Mem>
+    ensures { Writes (flat_for set.now tested.now count raised.now) writer.old writer.new result }
+{
+    let count = format!(in alloc; "{count}")?;
+    writer.tokens(&[b"for", b"(", set.as_str().as_bytes(), b"="])?;
+    writer.tokens(&[b"INT64_C", b"(", b"0", b")", b";"])?;
+    writer.tokens(&[tested.as_str().as_bytes(), b"<"])?;
+    writer.tokens(&[count.as_bytes(), b";"])?;
+    writer.tokens(&[raised.as_str().as_bytes(), b"++", b")"])
 }
 
 /// Where the result of a call goes.

@@ -2,7 +2,7 @@ use Rattle.std.proofs.Common.{[], ◌∷◌, ◌++◌, ap, ◌∙◌, refl, subs
 use Rattle.c_write.specs.Written.{Writes}
 use Rattle.std.specs.List.{flat_map}
 use Rattle.c_tree.specs.Flat.{lexemes, flat_arguments, flat_block, flat_stmt}
-use Rattle.c_tree.proofs.Variants.{flat_of_assign, flat_of_call, flat_of_if, flat_of_if_else, flat_of_return, flat_of_put}
+use Rattle.c_tree.proofs.Variants.{flat_of_assign, flat_of_call, flat_of_if, flat_of_if_else, flat_of_loop, flat_of_count, flat_of_break, flat_of_return, flat_of_put, flat_of_get}
 use Rattle.c_write.proofs.Writing.{wrote_then, writes_then, wrote_none, wrote_same, wrote_more, wrote_all, flat_each}
 use Rattle.c_write.proofs.trees.+write_tree.Goals as goal
 
@@ -48,11 +48,32 @@ write_stmt-returns-in_ok-token-in-Some t c =
     (wrote_then (wrote_then (wrote_then c.in_ok-tokens-in-If.ensures c.in_ok-write_expr-in-If.ensures) c.in_ok-token-in-If.ensures) block)
     (writes_then second c.write_block-in-Some.new.writer c.write_block-in-Some.result c.in_ok-token-in-Some.ensures written))
 
+pub write_stmt-returns-in_ok-tokens-in-Loop : goal.write_stmt-returns-in_ok-tokens-in-Loop
+write_stmt-returns-in_ok-tokens-in-Loop t c =
+    let block = subst (λ stmts. Writes (flat_block (map flat_stmt stmts)) c.tokens-in-Loop.new.self c.write_block-in-Loop.new.writer c.write_block-in-Loop.result) c.as_slice-in-Loop.ensures c.write_block-in-Loop.ensures
+    in rw (c.in-Loop.is, flat_of_loop c.in-Loop.body)
+    (writes_then (flat_block (map flat_stmt c.in-Loop.body)) c.write_block-in-Loop.new.writer c.write_block-in-Loop.result c.in_ok-tokens-in-Loop.ensures block)
+
+pub write_stmt-returns-in_ok-write_for-in-Count : goal.write_stmt-returns-in_ok-write_for-in-Count
+write_stmt-returns-in_ok-write_for-in-Count t c =
+    let block = subst (λ stmts. Writes (flat_block (map flat_stmt stmts)) c.write_for.new.writer c.write_block-in-Count.new.writer c.write_block-in-Count.result) c.as_slice-in-Count.ensures c.write_block-in-Count.ensures
+    in rw (c.in-Count.is, flat_of_count c.in-Count.set c.in-Count.tested c.in-Count.count c.in-Count.raised c.in-Count.body)
+    (writes_then (flat_block (map flat_stmt c.in-Count.body)) c.write_block-in-Count.new.writer c.write_block-in-Count.result c.in_ok-write_for-in-Count.ensures block)
+
+pub write_stmt-returns-in-Break : goal.write_stmt-returns-in-Break
+write_stmt-returns-in-Break t c = rw (c.in-Break.is, flat_of_break) c.tokens-in-Break.ensures
+
 pub write_stmt-returns-in_ok-write_returned-in-Return : goal.write_stmt-returns-in_ok-write_returned-in-Return
 write_stmt-returns-in_ok-write_returned-in-Return t c =
     rw (c.in-Return.is, flat_of_return c.in-Return.value)
     (writes_then (lexemes (codes ";" ∷ [])) c.token-in-Return-2.new.self c.token-in-Return-2.result
     (wrote_then c.in_ok-token-in-Return.ensures c.in_ok-write_returned-in-Return.ensures) c.token-in-Return-2.ensures)
+
+pub write_stmt-returns-in_ok-write_place-in-Get : goal.write_stmt-returns-in_ok-write_place-in-Get
+write_stmt-returns-in_ok-write_place-in-Get t c =
+    rw (c.in-Get.is, flat_of_get c.in-Get.place)
+    (writes_then (lexemes (codes "=" ∷ codes "sl_get" ∷ codes "(" ∷ codes ")" ∷ codes ";" ∷ [])) c.tokens-in-Get.new.self c.tokens-in-Get.result
+    c.in_ok-write_place-in-Get.ensures c.tokens-in-Get.ensures)
 
 pub write_stmt-returns-in_ok-write_expr-in-Put : goal.write_stmt-returns-in_ok-write_expr-in-Put
 write_stmt-returns-in_ok-write_expr-in-Put t c =
