@@ -1,10 +1,10 @@
 -- What a resolved program does doesn't look at the events so far.
-use Rattle.std.proofs.Common.{ℕ, ℤ, List, [], ◌∷◌, Bool, true, false, Option, Some, None, refl, subst, sym, map, pos, negsuc}
+use Rattle.std.proofs.Common.{ℕ, zero, suc, ℤ, List, [], ◌∷◌, Bool, true, false, Option, Some, None, refl, subst, sym, map, pos, negsuc}
 use Rattle.std.specs.Prelude.{nat_le, slice_get, not}
-use Rattle.sl_run.specs.Run.{Act, pure, ◌>>=◌, ◌>>◌, choose, put}
+use Rattle.sl_run.specs.Run.{Act, pure, ◌>>=◌, ◌>>◌, choose, put, get, round_then}
 use Rattle.sl_run.specs.Laws.{Alone}
-use Rattle.sl_run.proofs.Alone.{bind_alone, pure_alone, put_alone, choose_alone, turn_alone, calls_alone}
-use Rattle.c_tree.specs.Meaning.{Flow, Next, Returned, is_zero}
+use Rattle.sl_run.proofs.Alone.{bind_alone, pure_alone, put_alone, get_alone, choose_alone, turn_alone, round_then_alone, loop_alone, calls_alone}
+use Rattle.c_tree.specs.Meaning.{Flow, Next, Broke, Returned, is_zero, after_round, gotten}
 use Rattle.c_machine.specs.declared.program.Slot.{Slot}
 use Rattle.c_machine.specs.declared.program.Expr.{Expr}
 use Rattle.c_machine.specs.declared.program.Program.{Program}
@@ -12,7 +12,7 @@ use Rattle.c_machine.specs.declared.program.Stmt.{Stmt, Stmt-F, ind-Stmt, map-St
 use Rattle.c_machine.specs.declared.program.Stmt.TheOpen as stmt
 use Rattle.c_machine.specs.State.{State, is_declared}
 use Rattle.c_machine.specs.Values.{value, numbers}
-use Rattle.c_machine.specs.Meaning.{stuck, with_some, with_value, Calls, Meaning, then_on, in_order, write, store_result, has_target, call_to, given, begin, leave, body, begin_inline, put_number, returned, stmt_step, meaning, functions, enter, called, exit_value}
+use Rattle.c_machine.specs.Meaning.{stuck, with_some, with_value, Calls, Meaning, then_on, in_order, write, store_result, has_target, call_to, given, begin, leave, body, begin_inline, put_number, round, rounds, get_to, returned, stmt_step, meaning, functions, enter, called, exit_value}
 use Rattle.c_machine.proofs.Layers.{meaning_layer}
 
 -- calls don't look at the events so far
@@ -33,8 +33,9 @@ with_value_alone : {A B : Type 0} (of : State → Option A) (go : A → Act Stat
 with_value_alone of go h earlier t s = with_some_alone (of s) go h earlier t s
 
 -- what comes after a statement
-then_on_alone : (go : Act State Flow) (flow : Flow) → Alone go → Alone (then_on go flow)
+pub then_on_alone : (go : Act State Flow) (flow : Flow) → Alone go → Alone (then_on go flow)
 then_on_alone go Next h = h
+then_on_alone go Broke h = pure_alone Broke
 then_on_alone go (Returned value) h = pure_alone (Returned value)
 
 -- a number that is put
@@ -52,6 +53,22 @@ store_result_alone (Some slot) value = with_some_alone value (write slot) (λ nu
 pub and_next_alone : {A : Type 0} (a : Act State A) → Alone a → Alone (a >> pure Next)
 and_next_alone a h = bind_alone a (λ _. pure Next) h (λ _. pure_alone Next)
 
+-- a round of a loop
+pub round_alone : (body : Act State Flow) → Alone body → Alone (round body)
+round_alone body h = bind_alone body (λ flow. pure (after_round flow)) h (λ flow. pure_alone (after_round flow))
+
+-- the rounds of a counted loop
+pub rounds_alone : (slot : Slot) (body : Act State Flow) → Alone body → (from count : ℕ) → Alone (rounds slot body from count)
+rounds_alone slot body h from zero = and_next_alone (write slot (pos from)) (λ earlier t s. refl)
+rounds_alone slot body h from (suc count) =
+    let rest : Act State Flow = rounds slot body (suc from) count in
+    bind_alone (write slot (pos from)) (λ _. body >>= (λ flow. round_then (after_round flow) rest)) (λ earlier t s. refl)
+    (λ _. bind_alone body (λ flow. round_then (after_round flow) rest) h (λ flow. round_then_alone (after_round flow) rest (rounds_alone slot body h (suc from) count)))
+
+-- a byte of the input that is stored
+get_to_alone : (slot : Slot) → Alone (get_to slot)
+get_to_alone slot = bind_alone get (λ answer. write slot (gotten answer)) get_alone (λ answer earlier t s. refl)
+
 -- a call
 call_to_alone : (target : Option Slot) (arguments : List Expr) (call : List ℤ → Act State (Option ℤ)) → ((numbers : List ℤ) → Alone (call numbers)) → Alone (call_to target arguments call)
 call_to_alone target arguments call h =
@@ -63,6 +80,7 @@ call_to_alone target arguments call h =
 -- what a function gives
 pub given_alone : (gives : Bool) (flow : Flow) → Alone (given gives flow)
 given_alone gives (Returned value) earlier t s = refl
+given_alone gives Broke earlier t s = refl
 given_alone false Next earlier t s = refl
 given_alone true Next earlier t s = refl
 
@@ -127,8 +145,20 @@ meaning_alone s = ind-Stmt Calm (λ x y same. subst (λ z. Calm (roll-Stmt z)) s
         let first = in_order (map meaning (map only chosen)) call in
         let second = in_order (map meaning (map only other)) call in
         with_value_alone (value test) (λ x. choose (not (is_zero x.number)) first second) (λ x. choose_alone (not (is_zero x.number)) first second (in_order_known chosen call h) (in_order_known other call h)))
+    layer (stmt.Loop stmts) =
+        via (stmt.Loop (map only stmts))
+        (λ call h.
+        let inside = in_order (map meaning (map only stmts)) call in
+        loop_alone (round inside) (round_alone inside (in_order_known stmts call h)))
+    layer (stmt.Count slot count stmts) =
+        via (stmt.Count slot count (map only stmts))
+        (λ call h.
+        let inside = in_order (map meaning (map only stmts)) call in
+        choose_alone (is_declared slot) (rounds slot inside 0 count) stuck (rounds_alone slot inside (in_order_known stmts call h) 0 count) stuck_alone)
+    layer stmt.Break = via stmt.Break (λ call h. pure_alone Broke)
     layer (stmt.Return value) = via (stmt.Return value) (λ call h. returned_alone value)
     layer (stmt.Put e) = via (stmt.Put e) (λ call h. with_value_alone (value e) (λ x. put_number x.number) (λ x. put_number_alone x.number))
+    layer (stmt.Get slot) = via (stmt.Get slot) (λ call h. choose_alone (is_declared slot) (get_to slot >> pure Next) stuck (and_next_alone (get_to slot) (get_to_alone slot)) stuck_alone)
     layer (stmt.Halt kind file line) = via (stmt.Halt kind file line) (λ call h earlier t s. refl)
 
 -- statements in order

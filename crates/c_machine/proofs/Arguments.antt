@@ -9,8 +9,6 @@ use Rattle.c_machine.specs.declared.program.Slot.TheVariants.{Local, Global, Und
 use Rattle.c_machine.specs.declared.program.Expr.{Expr}
 use Rattle.c_machine.specs.declared.program.Word.{Word}
 use Rattle.c_machine.specs.declared.program.Stmt.{Stmt}
-use Rattle.c_machine.specs.declared.configuration.Flow.{Flow}
-use Rattle.c_machine.specs.declared.configuration.Flow.TheVariants.{Next, Returned}
 use Rattle.c_machine.specs.State.{State, is_declared}
 use Rattle.c_machine.specs.Values.{value, numbers}
 use Rattle.c_machine.specs.Stepped.{ready}
@@ -40,11 +38,6 @@ pub declared_slot : (slot : Slot) → (slot ≡ Undeclared → ⊥) → is_decla
 declared_slot (Local number) h = refl
 declared_slot (Global number) h = refl
 declared_slot Undeclared h = absurd (h refl)
-
--- a flow that is no return
-pub next_flow : (flow : Flow) → ((value : Option ℤ) → flow ≡ Returned value → ⊥) → flow ≡ Next
-next_flow Next h = refl
-next_flow (Returned value) h = absurd (h value refl)
 
 -- a list from one of its items on
 pub drop_at : (xs : List Stmt) (i : ℕ) (x d : Stmt) → i < length xs → x ≡ get_or xs i d → drop i xs ≡ x ∷ drop (i + 1) xs

@@ -12,16 +12,17 @@ use Rattle.c_tree.specs.declared.tree.CType.TheVariants.{Int, Void}
 use Rattle.c_tree.specs.Memory.{Number, Unwritten, Memory}
 use Rattle.c_tree.specs.Memory as c_memory
 use Rattle.c_tree.specs.Scope.{scope_of}
-use Rattle.c_tree.specs.Meaning.{Flow, Next, Returned, Callees, block, inline_callees}
+use Rattle.c_tree.specs.Meaning.{Flow, Next, Broke, Returned, Callees, block, inline_callees}
 use Rattle.c_tree.specs.Meaning as c
-use Rattle.c_machine.specs.declared.names.Names.{Names}
+use Rattle.c_rules.specs.declared.naming.Names.{Names}
 use Rattle.c_machine.specs.declared.program.Frame.{Frame}
 use Rattle.c_machine.specs.declared.program.Function.{Function}
 use Rattle.c_machine.specs.declared.scopes.Callee.{Callee}
 use Rattle.c_machine.specs.declared.scopes.Variable.{Variable}
 use Rattle.c_machine.specs.State.{State, owner_of, with_frame, without_frame}
 use Rattle.c_machine.specs.Meaning.{Calls, in_order, given, begin, leave, in_frame, body, begin_inline, meaning}
-use Rattle.c_machine.specs.Naming.{item_named, AreVars, callee_in}
+use Rattle.c_machine.specs.Naming.{AreVars, callee_in}
+use Rattle.c_rules.specs.Naming.{item_named}
 use Rattle.c_machine.specs.Related.{Pairwise, tree_of, FrameFits, Fits, GoesAs, call_of, AreCallees}
 use Rattle.c_machine.specs.Resolved.{has_result, FunctionIs, inline_named, AreInlines}
 use Rattle.c_machine.proofs.Fitting.{owners_fit}
@@ -80,6 +81,8 @@ leave_alike depth (Over e t) (Went w u m) h = absurd h
 given_goes : (depth : ℕ) (kind : CType) (flow : Flow) → GoesAs depth (given (has_result kind) flow) (c.given kind flow)
 given_goes depth (Int signed width) Next = stuck_goes depth (Option ℤ)
 given_goes depth Void Next = pure_follows NoneExcused AnyCopies (Fits depth) Same None None refl
+given_goes depth (Int signed width) Broke = stuck_goes depth (Option ℤ)
+given_goes depth Void Broke = stuck_goes depth (Option ℤ)
 given_goes depth (Int signed width) (Returned value) = pure_follows NoneExcused AnyCopies (Fits depth) Same value value refl
 given_goes depth Void (Returned value) = pure_follows NoneExcused AnyCopies (Fits depth) Same value value refl
 

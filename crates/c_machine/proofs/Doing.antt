@@ -1,6 +1,6 @@
 -- Resolved statements do what those of C do, one variant at a time.
 use Rattle.std.proofs.Common.{◌≡◌, ℕ, ℤ, List, [], ◌∷◌, Option, None, Some, map, Bool, true, false, not, refl, sym, ◌∙◌}
-use Rattle.sl_run.specs.Run.{Trace, Step, Act, pure, over, step_then, ◌>>=◌, ◌>>◌, choose}
+use Rattle.sl_run.specs.Run.{Trace, Step, Act, pure, over, step_then, ◌>>=◌, ◌>>◌, choose, get, loop}
 use Rattle.sl_run.specs.Run as run
 use Rattle.sl_run.specs.Alike.{AnyCopies, Same, NoneExcused}
 use Rattle.sl_run.proofs.Alike.{pure_follows, over_follows, choose_follows}
@@ -8,12 +8,13 @@ use Rattle.sl_run.proofs.Then.{bind_assoc}
 use Rattle.c_tree.specs.declared.tree.CArg.{CArg}
 use Rattle.c_tree.specs.declared.tree.CExpr.{CExpr}
 use Rattle.c_tree.specs.declared.tree.CPlace.{CPlace}
+use Rattle.c_tree.specs.declared.tree.CPlace.TheVariants.{Name}
 use Rattle.c_tree.specs.declared.tree.CStmt.{CStmt}
 use Rattle.c_tree.specs.declared.tree.CStmt.TheVariants as c_stmt
 use Rattle.c_tree.specs.Memory.{Number, Pointer, Memory}
 use Rattle.c_tree.specs.Parts.{argument_of}
 use Rattle.c_tree.specs.Scope.{Scope}
-use Rattle.c_tree.specs.Meaning.{Flow, Next, Returned, Callees, located, evaluate, arguments, is_zero, write_number, put_value, block}
+use Rattle.c_tree.specs.Meaning.{Flow, Next, Broke, Returned, after_round, gotten, Callees, located, evaluate, arguments, is_zero, write_number, put_value, block}
 use Rattle.c_tree.specs.Meaning as c
 use Rattle.c_tree.proofs.Equations as c_is
 use Rattle.c_machine.specs.declared.program.Expr.{Expr}
@@ -25,11 +26,11 @@ use Rattle.c_machine.specs.declared.scopes.Callee.{Callee}
 use Rattle.c_machine.specs.declared.scopes.Callee.TheVariants.{Numbered, Inline, Unknown}
 use Rattle.c_machine.specs.State.{State, is_declared}
 use Rattle.c_machine.specs.Values.{value, numbers}
-use Rattle.c_machine.specs.Meaning.{stuck, with_some, with_value, Calls, then_on, in_order, write, store_result, has_target, call_to, put_number, returned, meaning}
+use Rattle.c_machine.specs.Meaning.{stuck, with_some, with_value, Calls, then_on, in_order, write, store_result, has_target, call_to, put_number, round, rounds, get_to, returned, meaning}
 use Rattle.c_machine.specs.Naming.{name_of, ArePlaces}
 use Rattle.c_machine.specs.Related.{Pairwise, Fits, GoesAs, ComputesAs, ValueIs, ArgumentsAre, call_of, AreCallees, DoesAs, DoAs, target_slot, call_stmt}
-use Rattle.c_machine.proofs.Layers.{assign_is, call_is, inline_is, undefined_is, if_is, return_is, put_is, halt_is}
-use Rattle.c_machine.proofs.Going.{goes_same, bind_goes, some_goes, expr_goes, arguments_go, write_goes, located_goes, put_goes, then_on_goes}
+use Rattle.c_machine.proofs.Layers.{assign_is, call_is, inline_is, undefined_is, if_is, loop_is, count_is, break_is, return_is, put_is, get_is, halt_is}
+use Rattle.c_machine.proofs.Going.{goes_same, bind_goes, some_goes, expr_goes, arguments_go, write_goes, located_goes, put_goes, then_on_goes, loop_goes, rounds_go, get_goes}
 
 -- Calls ---------------------------------------------------------------------------------------------------------------
 
@@ -128,6 +129,26 @@ module _ (places : List ℕ → Place) (callees : List ℕ → Callee) where
         (expr_goes depth scope e r (λ x. put_number x.number) (λ x. put_value x.number) (is.computes scope h) (λ x. put_goes depth x.number));
   }
 
+  -- a byte of the input
+  pub get_does : (place : CPlace) → DoesAs places callees (c_stmt.Get place) (stmt.Get (places (name_of place)).slot)
+  get_does place = record {
+    goes = λ scope h call by_name lead depth.
+        let slot = (places (name_of place)).slot in
+        let go : Pointer → Act Memory (Unit {0}) = λ pointer. get >>= (λ answer. write_number pointer (gotten answer))
+        in goes_same depth _ (choose (is_declared slot) (get_to slot >> pure Next) stuck) _ (located scope place >>= (λ pointer. go pointer >> pure Next))
+        (get_is call slot) (c_is.get_is scope by_name place ∙ bind_assoc (located scope place) go (λ _. pure Next))
+        (located_goes depth scope places h place (get_to slot >> pure Next) (λ pointer. go pointer >> pure Next) (λ pointer at.
+        bind_goes depth (get_to slot) (go pointer) (λ _. pure Next) (λ _. pure Next) (get_goes depth slot pointer at)
+        (λ _. pure_follows NoneExcused AnyCopies (Fits depth) Same Next Next refl)));
+  }
+
+  -- the end of a loop
+  pub break_does : DoesAs places callees c_stmt.Break stmt.Break
+  break_does = record {
+    goes = λ scope h call by_name lead depth.
+        goes_same depth _ (pure Broke) _ (pure Broke) (break_is call) (c_is.break_is scope by_name) (pure_follows NoneExcused AnyCopies (Fits depth) Same Broke Broke refl);
+  }
+
   -- a halt
   pub halt_does : (kind file line : ℕ) → DoesAs places callees (c_stmt.Halt kind file line) (stmt.Halt kind file line)
   halt_does kind file line = record {
@@ -163,4 +184,24 @@ module _ (places : List ℕ → Place) (callees : List ℕ → Callee) where
         (if_is call r first []) (c_is.if_is scope by_name test chosen)
         (expr_goes depth scope test r _ _ (is.computes scope h) (λ x.
         choose_follows NoneExcused AnyCopies (Fits depth) Same (not (is_zero x.number)) (not (is_zero x.number)) _ _ _ _ refl (block_goes scope h call by_name lead depth chosen first p) (pure_follows NoneExcused AnyCopies (Fits depth) Same Next Next refl)));
+  }
+
+  -- a loop
+  pub loop_does : (body : List CStmt) (rs : List Stmt) → DoAs places callees body rs → DoesAs places callees (c_stmt.Loop body) (stmt.Loop rs)
+  loop_does body rs p = record {
+    goes = λ scope h call by_name lead depth.
+        goes_same depth _ (loop (round (in_order (map meaning rs) call))) _ (loop (block scope body by_name >>= (λ flow. pure (after_round flow)))) (loop_is call rs) (c_is.while_is scope by_name body)
+        (loop_goes depth (in_order (map meaning rs) call) (block scope body by_name) (block_goes scope h call by_name lead depth body rs p));
+  }
+
+  -- a counted loop
+  pub count_does : (set tested : List ℕ) (count : ℕ) (raised : List ℕ) (body : List CStmt) (rs : List Stmt) → DoAs places callees body rs → DoesAs places callees (c_stmt.Count set tested count raised body) (stmt.Count (places set).slot count rs)
+  count_does set tested count raised body rs p = record {
+    goes = λ scope h call by_name lead depth.
+        let slot = (places set).slot in
+        let inside = in_order (map meaning rs) call
+        in goes_same depth _ (choose (is_declared slot) (rounds slot inside 0 count) stuck) _ (located scope (Name set) >>= (λ pointer. c.rounds pointer (block scope body by_name) 0 count))
+        (count_is call slot count rs) (c_is.count_is scope by_name set tested count raised body)
+        (located_goes depth scope places h (Name set) (rounds slot inside 0 count) (λ pointer. c.rounds pointer (block scope body by_name) 0 count)
+        (λ pointer at. rounds_go depth slot pointer at inside (block scope body by_name) (block_goes scope h call by_name lead depth body rs p) 0 count));
   }

@@ -1,9 +1,9 @@
 -- Where a state fits a memory of C, statements do what those of C do.
-use Rattle.std.proofs.Common.{◌≡◌, ℕ, ℤ, ◌-◌, List, [], Option, None, Some, map, refl, sym, ap, subst, inr}
+use Rattle.std.proofs.Common.{◌≡◌, ℕ, zero, suc, ℤ, ◌-◌, List, [], Option, None, Some, map, refl, sym, ap, subst, inr}
 use Rattle.std.specs.Prelude.{pos, negsuc, option_map, nat_le}
-use Rattle.sl_run.specs.Run.{Stuck, Trace, Act, pure, step_then, ◌>>=◌, ◌>>◌, choose, put}
+use Rattle.sl_run.specs.Run.{Stuck, Trace, Act, pure, step_then, ◌>>=◌, ◌>>◌, choose, put, get, round_then, loop}
 use Rattle.sl_run.specs.Alike.{AlikeUnless, AnyCopies, Same, NoneExcused}
-use Rattle.sl_run.proofs.Alike.{bind_follows, pure_follows, put_follows, choose_follows}
+use Rattle.sl_run.proofs.Alike.{bind_follows, pure_follows, put_follows, get_follows, choose_follows, BothGive, round_then_follows, loop_follows}
 use Rattle.c_tree.specs.declared.tree.CArg.{CArg}
 use Rattle.c_tree.specs.declared.tree.CExpr.{CExpr}
 use Rattle.c_tree.specs.declared.tree.CPlace.{CPlace}
@@ -11,7 +11,7 @@ use Rattle.c_tree.specs.declared.tree.CPlace.TheVariants.{Name}
 use Rattle.c_tree.specs.Memory.{Globals, FrameAt, Pointer, Tree, Number, Memory}
 use Rattle.c_tree.specs.Parts.{argument_of}
 use Rattle.c_tree.specs.Scope.{Scope}
-use Rattle.c_tree.specs.Meaning.{Flow, Next, Returned, Callees, located, place_of, evaluate, arguments, is_zero, write_number, put_value, block}
+use Rattle.c_tree.specs.Meaning.{Flow, Next, Broke, Returned, after_round, gotten, Callees, located, place_of, evaluate, arguments, is_zero, write_number, put_value, block}
 use Rattle.c_tree.specs.Meaning as c
 use Rattle.c_machine.specs.declared.program.Word.{Word}
 use Rattle.c_machine.specs.declared.program.Slot.{Slot}
@@ -20,7 +20,7 @@ use Rattle.c_machine.specs.declared.program.Expr.{Expr}
 use Rattle.c_machine.specs.declared.scopes.Place.{Place}
 use Rattle.c_machine.specs.State.{State, is_declared}
 use Rattle.c_machine.specs.Values.{value, numbers}
-use Rattle.c_machine.specs.Meaning.{stuck, with_some, with_value, then_on, write, put_number}
+use Rattle.c_machine.specs.Meaning.{stuck, with_some, with_value, then_on, write, put_number, round, rounds, get_to}
 use Rattle.c_machine.specs.Naming.{name_of, ArePlaces}
 use Rattle.c_machine.specs.Related.{Pairwise, Fits, GoesAs, word_of, ComputesAs}
 use Rattle.c_machine.proofs.Fitting.{pointer_to, stuck_fits, local_fits, global_fits}
@@ -92,4 +92,33 @@ module _ (depth : ℕ) where
   -- what comes after a statement
   pub then_on_goes : (a : Act State Flow) (b : Act Memory Flow) (flow : Flow) → GoesAs depth a b → GoesAs depth (then_on a flow) (c.then_on b flow)
   then_on_goes a b Next h = h
+  then_on_goes a b Broke h = pure_follows NoneExcused AnyCopies (Fits depth) Same Broke Broke refl
   then_on_goes a b (Returned value) h = pure_follows NoneExcused AnyCopies (Fits depth) Same (Returned value) (Returned value) refl
+
+  -- the same way of being left, or both go round again
+  both_give : (given : Option Flow) → BothGive Same given given
+  both_give None = tt
+  both_give (Some flow) = refl
+
+  -- a round of a loop, and the loop
+  pub loop_goes : (a : Act State Flow) (b : Act Memory Flow) → GoesAs depth a b → GoesAs depth (loop (round a)) (loop (b >>= (λ flow. pure (after_round flow))))
+  loop_goes a b h =
+      loop_follows NoneExcused AnyCopies (Fits depth) Same (round a) (b >>= (λ flow. pure (after_round flow)))
+      (bind_follows NoneExcused AnyCopies (Fits depth) Same (BothGive Same) a b (λ flow. pure (after_round flow)) (λ flow. pure (after_round flow)) h
+      (λ x y e. pure_follows NoneExcused AnyCopies (Fits depth) (BothGive Same) (after_round x) (after_round y) (subst (λ y. BothGive Same (after_round x) (after_round y)) e (both_give (after_round x)))))
+
+  -- the rounds of a counted loop
+  pub rounds_go : (slot : Slot) (pointer : Pointer) → pointer_to depth slot ≡ Some pointer → (a : Act State Flow) (b : Act Memory Flow) → GoesAs depth a b → (from count : ℕ) → GoesAs depth (rounds slot a from count) (c.rounds pointer b from count)
+  rounds_go slot pointer is a b h from zero =
+      bind_goes (write slot (pos from)) (write_number pointer (pos from)) (λ _. pure Next) (λ _. pure Next) (write_goes slot (pos from) pointer is) (λ _. pure_follows NoneExcused AnyCopies (Fits depth) Same Next Next refl)
+  rounds_go slot pointer is a b h from (suc count) =
+      let go : Flow → Act State Flow = λ flow. round_then (after_round flow) (rounds slot a (suc from) count) in
+      let go' : Flow → Act Memory Flow = λ flow. round_then (after_round flow) (c.rounds pointer b (suc from) count) in
+      bind_goes (write slot (pos from)) (write_number pointer (pos from)) (λ _. a >>= go) (λ _. b >>= go') (write_goes slot (pos from) pointer is)
+      (λ _. bind_goes a b go go' h
+      (λ flow. round_then_follows NoneExcused AnyCopies (Fits depth) Same (after_round flow) (after_round flow) (rounds slot a (suc from) count) (c.rounds pointer b (suc from) count) (both_give (after_round flow)) (rounds_go slot pointer is a b h (suc from) count)))
+
+  -- a byte of the input that is stored
+  pub get_goes : (slot : Slot) (pointer : Pointer) → pointer_to depth slot ≡ Some pointer → GoesAs depth (get_to slot) (get >>= (λ answer. write_number pointer (gotten answer)))
+  get_goes slot pointer is =
+      bind_goes get get (λ answer. write slot (gotten answer)) (λ answer. write_number pointer (gotten answer)) (get_follows NoneExcused AnyCopies (Fits depth)) (λ answer. write_goes slot (gotten answer) pointer is)

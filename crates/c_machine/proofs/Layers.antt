@@ -3,10 +3,10 @@ use Rattle.std.proofs.Common.{◌≡◌, ℕ, List, Bool, Option, Some, sym, ap,
 use Rattle.std.specs.Prelude.{pos, not, option_map}
 use Rattle.std.specs.Option.{option_and_then}
 use Rattle.sl_num.specs.declared.comparing.Comparison.{Comparison}
-use Rattle.sl_run.specs.Run.{Trace, Over, Went, pure, over, ◌>>=◌, ◌>>◌, choose}
+use Rattle.sl_run.specs.Run.{Trace, Over, Went, pure, over, ◌>>=◌, ◌>>◌, choose, loop}
 use Rattle.sl_run.specs.Run as run
 use Rattle.c_tree.specs.declared.tree.CBinary.{CBinary}
-use Rattle.c_tree.specs.Meaning.{Next, is_zero}
+use Rattle.c_tree.specs.Meaning.{Next, Broke, is_zero}
 use Rattle.c_machine.specs.declared.program.Word.{Word}
 use Rattle.c_machine.specs.declared.program.Slot.{Slot}
 use Rattle.c_machine.specs.declared.program.Expr.{Expr, Expr-F, fold-roll-Expr, map-Expr, roll-Expr}
@@ -17,7 +17,7 @@ use Rattle.c_machine.specs.declared.program.Stmt.TheOpen as stmt_layer
 use Rattle.c_machine.specs.declared.program.Stmt.TheVariants as stmt
 use Rattle.c_machine.specs.State.{State, held, is_declared}
 use Rattle.c_machine.specs.Values.{binary, compared, negated, value_step, value}
-use Rattle.c_machine.specs.Meaning.{stuck, with_value, Calls, Meaning, in_order, write, call_to, begin_inline, body, put_number, returned, stmt_step, meaning}
+use Rattle.c_machine.specs.Meaning.{stuck, with_value, Calls, Meaning, in_order, write, call_to, begin_inline, body, put_number, round, rounds, get_to, returned, stmt_step, meaning}
 
 -- Expressions ---------------------------------------------------------------------------------------------------------
 
@@ -76,6 +76,22 @@ module _ (call : Calls) where
   -- one of the two blocks is done
   pub if_is : (test : Expr) (chosen other : List Stmt) → meaning (stmt.If test chosen other) call ≡ with_value (value test) (λ x. choose (not (is_zero x.number)) (in_order (map meaning chosen) call) (in_order (map meaning other) call))
   if_is test chosen other = ap (λ s. meaning s call) (sym (stmt.rolls-If test chosen other)) ∙ ap (λ m. m call) (meaning_layer (stmt_layer.If test chosen other))
+
+  -- the statements are done round after round
+  pub loop_is : (stmts : List Stmt) → meaning (stmt.Loop stmts) call ≡ loop (round (in_order (map meaning stmts) call))
+  loop_is stmts = ap (λ s. meaning s call) (sym (stmt.rolls-Loop stmts)) ∙ ap (λ m. m call) (meaning_layer (stmt_layer.Loop stmts))
+
+  -- the statements are done for each count, where the variable is declared
+  pub count_is : (slot : Slot) (count : ℕ) (stmts : List Stmt) → meaning (stmt.Count slot count stmts) call ≡ choose (is_declared slot) (rounds slot (in_order (map meaning stmts) call) 0 count) stuck
+  count_is slot count stmts = ap (λ s. meaning s call) (sym (stmt.rolls-Count slot count stmts)) ∙ ap (λ m. m call) (meaning_layer (stmt_layer.Count slot count stmts))
+
+  -- the innermost loop is left
+  pub break_is : meaning stmt.Break call ≡ pure Broke
+  break_is = ap (λ s. meaning s call) (sym stmt.rolls-Break) ∙ ap (λ m. m call) (meaning_layer stmt_layer.Break)
+
+  -- a byte of the input is stored, where the variable is declared
+  pub get_is : (slot : Slot) → meaning (stmt.Get slot) call ≡ choose (is_declared slot) (get_to slot >> pure Next) stuck
+  get_is slot = ap (λ s. meaning s call) (sym (stmt.rolls-Get slot)) ∙ ap (λ m. m call) (meaning_layer (stmt_layer.Get slot))
 
   -- the function is left
   pub return_is : (value : Option Expr) → meaning (stmt.Return value) call ≡ returned value

@@ -18,5 +18,6 @@ pub mod Lasts
 pub mod Arguments
 pub mod Bytes
 pub mod Printing
+pub mod Deeds
 pub mod Together
 pub mod Beginning

@@ -1,18 +1,19 @@
 -- The names of lists that grow at their end.
-use Rattle.std.proofs.Common.{◌≡◌, ℕ, zero, suc, ◌+◌, ◌<◌, List, [], ◌∷◌, ◌++◌, Option, None, Some, length, Bool, true, false, not, ◌&&◌, if◌then◌else◌, refl, sym, ap, ap₂, ◌∙◌, subst, arith, append_assoc, take, get_or, length-append}
+use Rattle.std.proofs.Common.{◌≡◌, ℕ, zero, suc, ◌+◌, ◌<◌, List, [], ◌∷◌, ◌++◌, Option, None, Some, length, Bool, true, false, not, ◌&&◌, if◌then◌else◌, refl, sym, ap, ap₂, ◌∙◌, arith, take, get_or}
 use Rattle.std.specs.Prelude.{slice_get, option_map, reverse}
 use Rattle.std.specs.Option.{is_some, option_and_then}
 use Rattle.std.specs.List.{position, position_from}
 use Rattle.std.specs.Str.{bytes_eq}
-use Rattle.std.proofs.lemmas.List.{take_more, length-take, reverse-append}
+use Rattle.std.proofs.lemmas.List.{take_more, reverse-append}
 use Rattle.std.proofs.lemmas.Iterator.Adapters.{position_from-zero}
-use Rattle.std.proofs.lemmas.Slice.Eq.{bytes_eq-Decides}
 use Rattle.c_tree.specs.declared.tree.CFun.{CFun}
 use Rattle.c_tree.specs.declared.tree.CVar.{CVar}
 use Rattle.c_tree.specs.Scope.{number_named, or_else}
-use Rattle.c_machine.specs.declared.names.Names.{Names}
+use Rattle.c_rules.specs.declared.naming.Names.{Names}
 use Rattle.c_machine.specs.declared.scopes.Variable.{Variable}
-use Rattle.c_machine.specs.Naming.{item_named, first_named, AreVars}
+use Rattle.c_machine.specs.Naming.{first_named, AreVars}
+use Rattle.c_rules.specs.Naming.{item_named}
+use Rattle.c_rules.proofs.Keeping.{keeps_named, gets_named}
 use Rattle.c_machine.specs.Resolved.{plain_named, AreNumbers}
 use Rattle.c_machine.proofs.Computing.{Nowhere, At, first_is, numbered, named_nowhere, named_at}
 
@@ -49,46 +50,9 @@ get_last : {X : Type 0} (xs : List X) (x : X) → slice_get (xs ++ x ∷ []) (le
 get_last [] x = refl
 get_last (y ∷ xs) x = get_last xs x
 
--- the elements so far of a list behind another
-pub appended : {X : Type 0} (earlier xs : List X) (i : ℕ) (x d : X) → i < length xs → x ≡ get_or xs i d → (earlier ++ take i xs) ++ x ∷ [] ≡ earlier ++ take (i + 1) xs
-appended earlier xs i x d within is =
-    append_assoc earlier (take i xs) (x ∷ [])
-    ∙ (ap (λ x. earlier ++ (take i xs ++ x ∷ [])) is ∙ ap (λ rest. earlier ++ rest) (sym (take_more xs i d within)))
-
 -- with the last one first
 pub reversed : {X : Type 0} (xs : List X) (i : ℕ) (x d : X) → i < length xs → x ≡ get_or xs i d → x ∷ reverse (take i xs) ≡ reverse (take (i + 1) xs)
 reversed xs i x d within is = ap (λ x. x ∷ reverse (take i xs)) is ∙ sym (ap reverse (take_more xs i d within) ∙ reverse-append (take i xs) (get_or xs i d ∷ []))
-
--- how many they are
-pub reached : {X : Type 0} (earlier xs : List X) (first i : ℕ) → length earlier ≡ first → i < length xs → length (earlier ++ take i xs) ≡ first + i
-reached earlier xs first i start within = omega (arith, start, length-append earlier (take i xs), length-take i xs)
-
--- Names ---------------------------------------------------------------------------------------------------------------
-
--- the same text
-same_text : (xs ys : List ℕ) → bytes_eq xs ys ≡ true → xs ≡ ys
-same_text xs ys h = (bytes_eq-Decides xs ys).0 h
-
--- the first of two where the first is there, or where it isn't
-first_there : {T : Type 0} (item : T) (o : Option T) (b : Bool) → (b ≡ true → is_some o ≡ true) → o ≡ or_else o (if b then Some item else None)
-first_there item (Some x) b h = refl
-first_there item None true h = let e = h refl in cc
-first_there item None false h = refl
-
-first_missing : {T : Type 0} (item : T) (o : Option T) (b : Bool) → (b ≡ true → is_some o ≡ false) → (if b then Some item else o) ≡ or_else o (if b then Some item else None)
-first_missing item None true h = refl
-first_missing item None false h = refl
-first_missing item (Some x) true h = let e = h refl in cc
-first_missing item (Some x) false h = refl
-
-module _ {T : Type 0} (names : Names T) (key : List ℕ) (item : T) where
-  -- a name that has an item keeps it
-  pub keeps_named : is_some (item_named names key) ≡ true → (name : List ℕ) → item_named names name ≡ or_else (item_named names name) (if bytes_eq key name then Some item else None)
-  keeps_named there name = first_there item (item_named names name) (bytes_eq key name) (λ same. subst (λ name. is_some (item_named names name) ≡ true) (same_text key name same) there)
-
-  -- one that has none gets it
-  pub gets_named : is_some (item_named names key) ≡ false → (name : List ℕ) → (if bytes_eq key name then Some item else item_named names name) ≡ or_else (item_named names name) (if bytes_eq key name then Some item else None)
-  gets_named missing name = first_missing item (item_named names name) (bytes_eq key name) (λ same. subst (λ name. is_some (item_named names name) ≡ false) (same_text key name same) missing)
 
 -- Variables -----------------------------------------------------------------------------------------------------------
 

@@ -11,13 +11,14 @@ use Rattle.c_tree.specs.Bytes.{charge}
 use Rattle.c_tree.specs.Memory.{Tree, Unwritten, Number, Memory, live}
 use Rattle.c_tree.specs.Meaning.{charge_of, numbered_call, number_of, run_callees, begin_start, first_memory, c_run}
 use Rattle.c_tree.specs.Meaning as c
-use Rattle.c_machine.specs.declared.names.Names.{Names}
+use Rattle.c_rules.specs.declared.naming.Names.{Names}
 use Rattle.c_machine.specs.declared.program.Function.{Function}
 use Rattle.c_machine.specs.declared.program.Program.{Program}
 use Rattle.c_machine.specs.declared.scopes.Variable.{Variable}
 use Rattle.c_machine.specs.State.{State}
 use Rattle.c_machine.specs.Meaning.{Calls, begin, leave, in_frame, body, meaning, functions, enter, called, with_some, exit_value, whole, first_state, program_run}
-use Rattle.c_machine.specs.Naming.{item_named, AreVars, callee_in}
+use Rattle.c_machine.specs.Naming.{AreVars, callee_in}
+use Rattle.c_rules.specs.Naming.{item_named}
 use Rattle.c_machine.specs.Related.{Fits, GoesAs, call_of, AreCallees}
 use Rattle.c_machine.specs.Resolved.{FunctionIs, callees_of, FunctionsAre, AreNumbers, AreInlines, MeansFile}
 use Rattle.c_machine.proofs.Lists.{Both, both_at}

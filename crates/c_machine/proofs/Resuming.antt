@@ -1,12 +1,13 @@
 -- One law for each kind of step: what `resume` says before it, it says after it.
-use Rattle.std.proofs.Common.{◌≡◌, ℕ, suc, ◌+◌, ℤ, pos, negsuc, List, [], ◌∷◌, ◌++◌, Bool, true, false, Option, Some, None, refl, sym, ap, ◌∙◌, map, drop}
+use Rattle.std.proofs.Common.{◌≡◌, ℕ, suc, ◌+◌, ◌-◌, ℤ, pos, negsuc, List, [], ◌∷◌, ◌++◌, Bool, true, false, Option, Some, None, refl, sym, ap, ◌∙◌, arith, map, drop, add-one}
 use Rattle.std.specs.Prelude.{slice_get, nat_le, not, if◌then◌else◌}
-use Rattle.sl_run.specs.Run.{TurnsSpent, Stuck, Puts, Act, Trace, Step, Went, Over, pure, step_then, ◌>>=◌, ◌>>◌, turn, turn_at, choose, put}
+use Rattle.sl_run.specs.Run.{TurnsSpent, Stuck, Puts, Asks, Act, Trace, Step, Went, Over, pure, step_then, ◌>>=◌, ◌>>◌, turn, turn_at, choose, put, first_of, rest_of, round_then, loop}
 use Rattle.sl_run.specs.Run as run
 use Rattle.sl_run.specs.Laws.{Alone}
 use Rattle.sl_run.proofs.Then.{bind_assoc}
-use Rattle.sl_run.proofs.Alone.{bind_alone, pure_alone}
-use Rattle.c_tree.specs.Meaning.{Flow, Next, Returned, is_zero}
+use Rattle.sl_run.proofs.Alone.{bind_alone, round_then_alone, loop_alone}
+use Rattle.sl_run.proofs.Equations.{turn_goes, turn_stops}
+use Rattle.c_tree.specs.Meaning.{Flow, Next, Broke, Returned, is_zero, after_round, gotten}
 use Rattle.c_machine.specs.declared.program.Slot.{Slot}
 use Rattle.c_machine.specs.declared.program.Word.{Word}
 use Rattle.c_machine.specs.declared.program.Expr.{Expr}
@@ -15,22 +16,30 @@ use Rattle.c_machine.specs.declared.program.Stmt.TheVariants as stmt
 use Rattle.c_machine.specs.declared.program.Function.{Function}
 use Rattle.c_machine.specs.declared.program.Program.{Program}
 use Rattle.c_machine.specs.declared.configuration.Entry.{Entry}
-use Rattle.c_machine.specs.declared.configuration.Entry.TheVariants.{Rest, Back}
+use Rattle.c_machine.specs.declared.configuration.Entry.TheVariants.{Rest, Again, Rounds, Back}
 use Rattle.c_machine.specs.State.{State, owner_of, with_held, is_declared, with_frame, without_frame}
 use Rattle.c_machine.specs.Values.{value, numbers}
-use Rattle.c_machine.specs.Meaning.{stuck, with_some, with_value, then_on, in_order, write, store_result, has_target, call_to, given, begin, leave, body, begin_inline, put_number, meaning, functions, called, exit_value}
-use Rattle.c_machine.specs.Resume.{entered, resume}
+use Rattle.c_machine.specs.Meaning.{stuck, with_some, with_value, then_on, in_order, write, store_result, has_target, call_to, given, begin, leave, body, begin_inline, put_number, round, rounds, get_to, meaning, functions, called, exit_value}
+use Rattle.c_machine.specs.Resume.{block, entered, resume}
 use Rattle.c_machine.specs.Stepped.{ready}
 use Rattle.c_machine.proofs.Layers as layer
-use Rattle.c_machine.proofs.Steady.{called_is}
-use Rattle.c_machine.proofs.Alone.{in_order_alone, called_alone, given_alone, left_alone, store_result_alone, and_next_alone, exit_value_alone}
+use Rattle.c_machine.proofs.Steady.{called_is, loop_again}
+use Rattle.c_machine.proofs.Alone.{then_on_alone, round_alone, rounds_alone, in_order_alone, called_alone, given_alone, left_alone, store_result_alone, and_next_alone, exit_value_alone}
 
 module _ (program : Program) (gives : Bool) where
   -- what still happens doesn't look at the events so far
 
+  block_alone : (stmts : List Stmt) → Alone (block program stmts)
+  block_alone stmts = in_order_alone stmts (called program) (called_alone program)
+
   entered_alone : (entry : Entry) (flow : Flow) → Alone (entered program entry flow)
-  entered_alone (Rest stmts from) Next = in_order_alone (drop from stmts) (called program) (called_alone program)
-  entered_alone (Rest stmts from) (Returned value) = pure_alone (Returned value)
+  entered_alone (Rest stmts from) flow = then_on_alone (block program (drop from stmts)) flow (block_alone (drop from stmts))
+  entered_alone (Again stmts) flow =
+      let body : Act State Flow = block program stmts in
+      round_then_alone (after_round flow) (loop (round body)) (loop_alone (round body) (round_alone body (block_alone stmts)))
+  entered_alone (Rounds slot from end stmts) flow =
+      let body : Act State Flow = block program stmts in
+      round_then_alone (after_round flow) (rounds slot body from (end - from)) (rounds_alone slot body (block_alone stmts) from (end - from))
   entered_alone (Back target given_back) flow =
       and_next_alone (given given_back flow >>= leave >>= store_result target)
       (bind_alone (given given_back flow >>= leave) (store_result target) (left_alone given_back flow) (store_result_alone target))
@@ -65,16 +74,17 @@ module _ (program : Program) (gives : Bool) where
     unfolding resume
     rest_ends stmts from t s e = ap (λ (left : List Stmt). (in_order (map meaning left) (called program) >>= after) t s) e
 
-    pub rest_returned : (stmts : List Stmt) (from : ℕ) (value : Option ℤ) (t : Trace) (s : State) → resume program gives (Rest stmts from ∷ control) (Returned value) t s ≡ after (Returned value) t s
+    pub rest_left : (stmts : List Stmt) (from : ℕ) (flow : Flow) (t : Trace) (s : State) → (flow ≡ Next → ⊥) → resume program gives (Rest stmts from ∷ control) flow t s ≡ after flow t s
     unfolding resume
-    rest_returned stmts from value t s = refl
+    rest_left stmts from Next t s h = absurd (h refl)
+    rest_left stmts from Broke t s h = refl
+    rest_left stmts from (Returned value) t s h = refl
 
-    after_statement : (stmts : List Stmt) (from : ℕ) (flow : Flow) → (then_on (in_order (map meaning (drop from stmts)) (called program)) flow >>= after) ≡ resume program gives (Rest stmts from ∷ control) flow
+    after_statement : (stmts : List Stmt) (from : ℕ) (flow : Flow) → (then_on (block program (drop from stmts)) flow >>= after) ≡ resume program gives (Rest stmts from ∷ control) flow
     unfolding resume
-    after_statement stmts from Next = refl
-    after_statement stmts from (Returned value) = refl
+    after_statement stmts from flow = refl
 
-    block_goes : (stmts : List Stmt) (from : ℕ) → resume program gives (Rest stmts from ∷ control) Next ≡ (in_order (map meaning (drop from stmts)) (called program) >>= after)
+    block_goes : (stmts : List Stmt) (from : ℕ) → resume program gives (Rest stmts from ∷ control) Next ≡ (block program (drop from stmts) >>= after)
     unfolding resume
     block_goes stmts from = refl
 
@@ -104,6 +114,78 @@ module _ (program : Program) (gives : Bool) where
     pub back_nothing : (slot : Slot) (gives_back : Bool) (flow : Flow) (t : Trace) (s : State) → given gives_back flow ≡ pure None → resume program gives (Back (Some slot) gives_back ∷ control) flow t s ≡ Over (Stuck (owner_of (without_frame s).frames)) t
     back_nothing slot gives_back flow t s e = back_gives (Some slot) gives_back flow None t s e
 
+    -- loops
+
+    left_so : (go : Act State Flow) (flow onward : Flow) (t : Trace) (s : State) → after_round flow ≡ Some onward → (round_then (after_round flow) go >>= after) t s ≡ after onward t s
+    left_so go flow onward t s e = ap (λ (given : Option Flow). (round_then given go >>= after) t s) e
+
+    pub again_left : (stmts : List Stmt) (flow onward : Flow) (t : Trace) (s : State) → after_round flow ≡ Some onward → resume program gives (Again stmts ∷ control) flow t s ≡ after onward t s
+    unfolding resume
+    again_left stmts flow onward t s e = left_so (loop (round (block program stmts))) flow onward t s e
+
+    again_is : (stmts : List Stmt) → resume program gives (Again stmts ∷ control) Next ≡ (loop (round (block program stmts)) >>= after)
+    unfolding resume
+    again_is stmts = refl
+
+    after_turn : (stmts : List Stmt) (flow : Flow) → (pure (after_round flow) >>= (λ given. round_then given (loop (round (block program stmts))) >>= after)) ≡ resume program gives (Again stmts ∷ control) flow
+    unfolding resume
+    after_turn stmts flow = refl
+
+    turn_block : (stmts : List Stmt) → resume program gives (Rest stmts 0 ∷ Again stmts ∷ control) Next ≡ (block program stmts >>= resume program gives (Again stmts ∷ control))
+    unfolding resume
+    turn_block stmts = refl
+
+    turn_is : (stmts : List Stmt) → ((round (block program stmts) >>= (λ given. round_then given (loop (round (block program stmts))))) >>= after) ≡ resume program gives (Rest stmts 0 ∷ Again stmts ∷ control) Next
+    turn_is stmts =
+        let body : Act State Flow = block program stmts in
+        bind_assoc (round body) (λ given. round_then given (loop (round body))) after
+        ∙ (bind_assoc body (λ flow. pure (after_round flow)) (λ given. round_then given (loop (round body)) >>= after)
+        ∙ ((λ k. body >>= (λ flow. after_turn stmts flow k)) ∙ sym (turn_block stmts)))
+
+    -- a loop is a turn, its statements, and the loop again
+    again_goes : (stmts : List Stmt) → resume program gives (Again stmts ∷ control) Next ≡ (turn >> resume program gives (Rest stmts 0 ∷ Again stmts ∷ control) Next)
+    again_goes stmts =
+        let body : Act State Flow = block program stmts in
+        again_is stmts
+        ∙ ((λ k. loop_again program stmts k >>= after)
+        ∙ (bind_assoc turn (λ _. round body >>= (λ given. round_then given (loop (round body)))) after
+        ∙ (λ k. turn >> turn_is stmts k)))
+
+    pub again_turns : (stmts : List Stmt) (left : ℕ) (t : Trace) (s : State) → t.left ≡ suc left → resume program gives (Again stmts ∷ control) Next t s ≡ resume program gives (Rest stmts 0 ∷ Again stmts ∷ control) Next (record t { left = left }) s
+    again_turns stmts left t s e = (λ k. again_goes stmts k t s) ∙ turn_goes (resume program gives (Rest stmts 0 ∷ Again stmts ∷ control) Next) left t s e
+
+    pub again_spent : (stmts : List Stmt) (t : Trace) (s : State) → t.left ≡ 0 → resume program gives (Again stmts ∷ control) Next t s ≡ Over TurnsSpent t
+    again_spent stmts t s e = (λ k. again_goes stmts k t s) ∙ turn_stops (resume program gives (Rest stmts 0 ∷ Again stmts ∷ control) Next) t s e
+
+    -- counted loops
+
+    module _ (slot : Slot) (from end : ℕ) (stmts : List Stmt) where
+      pub rounds_left : (flow onward : Flow) (t : Trace) (s : State) → after_round flow ≡ Some onward → resume program gives (Rounds slot from end stmts ∷ control) flow t s ≡ after onward t s
+      unfolding resume
+      rounds_left flow onward t s e = left_so (rounds slot (block program stmts) from (end - from)) flow onward t s e
+
+      rounds_are : (count : ℕ) (t : Trace) (s : State) → end - from ≡ count → resume program gives (Rounds slot from end stmts ∷ control) Next t s ≡ (rounds slot (block program stmts) from count >>= after) t s
+      unfolding resume
+      rounds_are count t s e = ap (λ count. (rounds slot (block program stmts) from count >>= after) t s) e
+
+      pub rounds_end : (t : Trace) (s : State) → end - from ≡ 0 → resume program gives (Rounds slot from end stmts ∷ control) Next t s ≡ after Next t (with_held slot (pos from) s)
+      rounds_end t s e = rounds_are 0 t s e
+
+      -- the statements, and then the rounds from the next count on
+      abbrev going_round : ℕ → Act State ℤ
+      going_round next = block program stmts >>= (λ flow. round_then (after_round flow) (rounds slot (block program stmts) next (end - (from + 1))) >>= after)
+
+      round_block : resume program gives (Rest stmts 0 ∷ Rounds slot (from + 1) end stmts ∷ control) Next ≡ going_round (from + 1)
+      unfolding resume
+      round_block = refl
+
+      pub rounds_go : (t : Trace) (s : State) → end - from ≡ suc (end - (from + 1)) → resume program gives (Rounds slot from end stmts ∷ control) Next t s ≡ resume program gives (Rest stmts 0 ∷ Rounds slot (from + 1) end stmts ∷ control) Next t (with_held slot (pos from) s)
+      rounds_go t s e =
+          rounds_are (suc (end - (from + 1))) t s e
+          ∙ ((λ k. bind_assoc (block program stmts) (λ flow. round_then (after_round flow) (rounds slot (block program stmts) (suc from) (end - (from + 1)))) after k t (with_held slot (pos from) s))
+          ∙ ((λ k. going_round (sym (add-one from) k) t (with_held slot (pos from) s))
+          ∙ (λ k. sym round_block k t (with_held slot (pos from) s))))
+
     -- a statement, and then what the control says
     abbrev pub first : Stmt → Act State ℤ
     first stmt = meaning stmt (called program) >>= after
@@ -113,6 +195,41 @@ module _ (program : Program) (gives : Bool) where
 
     pub halt_stops : (kind file line : ℕ) (t : Trace) (s : State) → first (stmt.Halt kind file line) t s ≡ Over (run.Halt kind file line) t
     halt_stops kind file line t s = λ k. step_then (layer.halt_is (called program) kind file line k t s) after
+
+    -- a loop, and the end of one
+
+    pub loop_goes : (stmts : List Stmt) (t : Trace) (s : State) → first (stmt.Loop stmts) t s ≡ resume program gives (Again stmts ∷ control) Next t s
+    unfolding resume
+    loop_goes stmts t s = λ k. step_then (layer.loop_is (called program) stmts k t s) after
+
+    count_is : (slot : Slot) (count : ℕ) (stmts : List Stmt) (declared : Bool) (t : Trace) (s : State) → is_declared slot ≡ declared → first (stmt.Count slot count stmts) t s ≡ (choose declared (rounds slot (block program stmts) 0 count) stuck >>= after) t s
+    count_is slot count stmts declared t s d =
+        (λ k. step_then (layer.count_is (called program) slot count stmts k t s) after) ∙ ap (λ b. (choose b (rounds slot (block program stmts) 0 count) stuck >>= after) t s) d
+
+    pub count_undeclared : (slot : Slot) (count : ℕ) (stmts : List Stmt) (t : Trace) (s : State) → is_declared slot ≡ false → first (stmt.Count slot count stmts) t s ≡ Over (Stuck (owner_of s.frames)) t
+    count_undeclared slot count stmts t s d = count_is slot count stmts false t s d
+
+    pub count_goes : (slot : Slot) (count : ℕ) (stmts : List Stmt) (t : Trace) (s : State) → is_declared slot ≡ true → first (stmt.Count slot count stmts) t s ≡ resume program gives (Rounds slot 0 count stmts ∷ control) Next t s
+    unfolding resume
+    count_goes slot count stmts t s d =
+        let all : count ≡ count - 0 = omega arith in
+        count_is slot count stmts true t s d ∙ ap (λ count. (rounds slot (block program stmts) 0 count >>= after) t s) all
+
+    pub break_goes : (t : Trace) (s : State) → first stmt.Break t s ≡ after Broke t s
+    break_goes t s = λ k. step_then (layer.break_is (called program) k t s) after
+
+    -- a byte of the input
+
+    get_is : (slot : Slot) (declared : Bool) (t : Trace) (s : State) → is_declared slot ≡ declared → first (stmt.Get slot) t s ≡ (choose declared (get_to slot >> pure Next) stuck >>= after) t s
+    get_is slot declared t s d =
+        (λ k. step_then (layer.get_is (called program) slot k t s) after) ∙ ap (λ b. (choose b (get_to slot >> pure Next) stuck >>= after) t s) d
+
+    pub get_undeclared : (slot : Slot) (t : Trace) (s : State) → is_declared slot ≡ false → first (stmt.Get slot) t s ≡ Over (Stuck (owner_of s.frames)) t
+    get_undeclared slot t s d = get_is slot false t s d
+
+    pub get_goes : (slot : Slot) (t : Trace) (s : State) → is_declared slot ≡ true
+        → first (stmt.Get slot) t s ≡ after Next (record t { events = t.events ++ Asks ∷ []; rest = rest_of t.rest }) (with_held slot (gotten (first_of t.rest)) s)
+    get_goes slot t s d = get_is slot true t s d
 
     -- an assignment
 

@@ -1,11 +1,11 @@
 -- What a resolved program does agrees where what its calls do agrees.
-use Rattle.std.proofs.Common.{◌≡◌, ℕ, ℤ, List, [], ◌∷◌, Bool, true, false, Option, Some, None, refl, subst, sym, map, pos, negsuc}
+use Rattle.std.proofs.Common.{◌≡◌, ℕ, zero, suc, ℤ, List, [], ◌∷◌, Bool, true, false, Option, Some, None, refl, subst, sym, map, pos, negsuc}
 use Rattle.std.specs.Prelude.{nat_le, slice_get, not}
-use Rattle.sl_run.specs.Run.{Act, pure, ◌>>=◌, ◌>>◌, choose, put, turn}
-use Rattle.sl_run.specs.Laws.{Agrees, Respects}
-use Rattle.sl_run.proofs.Steady.{bind_agrees, pure_agrees, put_agrees, choose_agrees}
-use Rattle.sl_run.proofs.Equations.{turn_takes, calls_are}
-use Rattle.c_tree.specs.Meaning.{Flow, Next, Returned, is_zero}
+use Rattle.sl_run.specs.Run.{Act, pure, ◌>>=◌, ◌>>◌, choose, put, get, turn, round_then, loop}
+use Rattle.sl_run.specs.Laws.{Agrees, Steady, Respects}
+use Rattle.sl_run.proofs.Steady.{bind_agrees, pure_agrees, put_agrees, get_agrees, choose_agrees, turn_agrees, round_then_agrees, loop_agrees, calls_steady}
+use Rattle.sl_run.proofs.Equations.{turn_takes, loop_is, calls_are}
+use Rattle.c_tree.specs.Meaning.{Flow, Next, Broke, Returned, is_zero, after_round, gotten}
 use Rattle.c_machine.specs.declared.program.Slot.{Slot}
 use Rattle.c_machine.specs.declared.program.Expr.{Expr}
 use Rattle.c_machine.specs.declared.program.Function.{Function}
@@ -14,7 +14,7 @@ use Rattle.c_machine.specs.declared.program.Stmt.{Stmt, Stmt-F, ind-Stmt, map-St
 use Rattle.c_machine.specs.declared.program.Stmt.TheOpen as stmt
 use Rattle.c_machine.specs.State.{State, is_declared}
 use Rattle.c_machine.specs.Values.{value, numbers}
-use Rattle.c_machine.specs.Meaning.{stuck, with_some, with_value, Calls, Meaning, then_on, in_order, write, store_result, has_target, call_to, given, begin, leave, body, begin_inline, put_number, returned, stmt_step, meaning, functions, enter, called}
+use Rattle.c_machine.specs.Meaning.{stuck, with_some, with_value, Calls, Meaning, then_on, in_order, write, store_result, has_target, call_to, given, begin, leave, body, begin_inline, put_number, round, rounds, get_to, returned, stmt_step, meaning, functions, enter, called}
 use Rattle.c_machine.proofs.Layers.{meaning_layer}
 
 -- what two ways of calling functions have in common
@@ -38,6 +38,7 @@ module _ (n : ℕ) where
   -- what comes after a statement
   then_on_agrees : (go go' : Act State Flow) (flow : Flow) → Agrees n go go' → Agrees n (then_on go flow) (then_on go' flow)
   then_on_agrees go go' Next h = h
+  then_on_agrees go go' Broke h = pure_agrees n Broke
   then_on_agrees go go' (Returned value) h = pure_agrees n (Returned value)
 
   -- a number that is put
@@ -61,6 +62,25 @@ module _ (n : ℕ) where
   and_next : {A : Type 0} (a b : Act State A) → Agrees n a b → Agrees n (a >> pure Next) (b >> pure Next)
   and_next a b h = bind_agrees n a b (λ _. pure Next) (λ _. pure Next) h (λ _. pure_agrees n Next)
 
+  -- a round of a loop
+  round_agrees : (body body' : Act State Flow) → Agrees n body body' → Agrees n (round body) (round body')
+  round_agrees body body' h = bind_agrees n body body' (λ flow. pure (after_round flow)) (λ flow. pure (after_round flow)) h (λ flow. pure_agrees n (after_round flow))
+
+  -- the rounds of a counted loop
+  rounds_agree : (slot : Slot) (body body' : Act State Flow) → Agrees n body body' → (from count : ℕ) → Agrees n (rounds slot body from count) (rounds slot body' from count)
+  rounds_agree slot body body' h from zero = and_next (write slot (pos from)) (write slot (pos from)) (write_agrees slot (pos from))
+  rounds_agree slot body body' h from (suc count) =
+      let rest : Act State Flow = rounds slot body (suc from) count in
+      let rest' : Act State Flow = rounds slot body' (suc from) count in
+      bind_agrees n (write slot (pos from)) (write slot (pos from)) (λ _. body >>= (λ flow. round_then (after_round flow) rest)) (λ _. body' >>= (λ flow. round_then (after_round flow) rest'))
+      (write_agrees slot (pos from))
+      (λ _. bind_agrees n body body' (λ flow. round_then (after_round flow) rest) (λ flow. round_then (after_round flow) rest') h
+      (λ flow. round_then_agrees n (after_round flow) rest rest' (rounds_agree slot body body' h (suc from) count)))
+
+  -- a byte of the input that is stored
+  get_to_agrees : (slot : Slot) → Agrees n (get_to slot) (get_to slot)
+  get_to_agrees slot = bind_agrees n get get (λ answer. write slot (gotten answer)) (λ answer. write slot (gotten answer)) (get_agrees n) (λ answer. write_agrees slot (gotten answer))
+
   -- a call
   call_to_agrees : (target : Option Slot) (arguments : List Expr) (call call' : List ℤ → Act State (Option ℤ)) → ((numbers : List ℤ) → Agrees n (call numbers) (call' numbers)) → Agrees n (call_to target arguments call) (call_to target arguments call')
   call_to_agrees target arguments call call' h =
@@ -73,6 +93,7 @@ module _ (n : ℕ) where
   -- what a function gives
   given_agrees : (gives : Bool) (flow : Flow) → Agrees n (given gives flow) (given gives flow)
   given_agrees gives (Returned value) t s le = (refl, le)
+  given_agrees gives Broke t s le = (refl, le)
   given_agrees false Next t s le = (refl, le)
   given_agrees true Next t s le = (refl, le)
 
@@ -141,8 +162,18 @@ module _ (n : ℕ) where
           let second = λ (call : Calls). in_order (map meaning (map only other)) call in
           with_value_agrees (value test) (λ x. choose (not (is_zero x.number)) (first call) (second call)) (λ x. choose (not (is_zero x.number)) (first call') (second call'))
           (λ x. choose_agrees n (not (is_zero x.number)) (first call) (second call) (first call') (second call') (in_order_known chosen call call' h) (in_order_known other call call' h)))
+      layer (stmt.Loop stmts) =
+          let inside = λ (call : Calls). in_order (map meaning (map only stmts)) call in
+          via (stmt.Loop (map only stmts)) (λ call call' h. loop_agrees n (round (inside call)) (round (inside call')) (round_agrees (inside call) (inside call') (in_order_known stmts call call' h)))
+      layer (stmt.Count slot count stmts) =
+          let inside = λ (call : Calls). in_order (map meaning (map only stmts)) call in
+          via (stmt.Count slot count (map only stmts))
+          (λ call call' h. choose_agrees n (is_declared slot) (rounds slot (inside call) 0 count) stuck (rounds slot (inside call') 0 count) stuck (rounds_agree slot (inside call) (inside call') (in_order_known stmts call call' h) 0 count) stuck_agrees)
+      layer stmt.Break = via stmt.Break (λ call call' h. pure_agrees n Broke)
       layer (stmt.Return value) = via (stmt.Return value) (λ call call' h. returned_agrees value)
       layer (stmt.Put e) = via (stmt.Put e) (λ call call' h. with_value_agrees (value e) (λ x. put_number x.number) (λ x. put_number x.number) (λ x. put_number_agrees x.number))
+      layer (stmt.Get slot) =
+          via (stmt.Get slot) (λ call call' h. choose_agrees n (is_declared slot) (get_to slot >> pure Next) stuck (get_to slot >> pure Next) stuck (and_next (get_to slot) (get_to slot) (get_to_agrees slot)) stuck_agrees)
       layer (stmt.Halt kind file line) = via (stmt.Halt kind file line) (λ call call' h t s le. (refl, le))
 
   -- statements in order
@@ -166,3 +197,14 @@ functions_respect program n call call' h number arguments =
 pub called_is : (program : Program) (number : ℕ) (arguments : List ℤ) → called program number arguments ≡ (turn >> functions program (called program) number arguments)
 unfolding called
 called_is program number arguments = calls_are enter (functions program) (λ f x. turn_takes) (functions_respect program) number arguments
+
+-- no call in a run gives a turn back
+pub called_steady : (program : Program) (number : ℕ) (arguments : List ℤ) → Steady (called program number arguments)
+unfolding called
+called_steady program number arguments = calls_steady enter (functions program) (λ f x n. turn_agrees n) (functions_respect program) number arguments
+
+-- a loop in a run is a turn, its statements, and the loop again unless these are left by a break or a return
+pub loop_again : (program : Program) (stmts : List Stmt) → loop (round (in_order (map meaning stmts) (called program))) ≡ (turn >> (round (in_order (map meaning stmts) (called program)) >>= (λ given. round_then given (loop (round (in_order (map meaning stmts) (called program)))))))
+loop_again program stmts =
+    let inside : Act State Flow = in_order (map meaning stmts) (called program) in
+    loop_is (round inside) (λ n. round_agrees n inside inside (in_order_agrees n stmts (called program) (called program) (λ number arguments. called_steady program number arguments n)))

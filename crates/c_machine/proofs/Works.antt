@@ -1,12 +1,12 @@
 -- How much work statements are.
-use Rattle.std.proofs.Common.{◌≡◌, ℕ, ◌+◌, ◌≤◌, List, Bool, true, false, Option, sym, ap, ◌∙◌, arith, map}
+use Rattle.std.proofs.Common.{◌≡◌, ℕ, suc, ◌+◌, ◌-◌, ◌≤◌, List, Bool, true, false, Option, sym, ap, ◌∙◌, arith, map}
 use Rattle.std.specs.Prelude.{sum, if◌then◌else◌}
 use Rattle.c_machine.specs.declared.program.Slot.{Slot}
 use Rattle.c_machine.specs.declared.program.Expr.{Expr}
 use Rattle.c_machine.specs.declared.program.Stmt.{Stmt, Stmt-F, fold-roll-Stmt, map-Stmt, roll-Stmt}
 use Rattle.c_machine.specs.declared.program.Stmt.TheVariants as stmt
 use Rattle.c_machine.specs.declared.program.Stmt.TheOpen as layer
-use Rattle.c_machine.specs.Stepped.{weight_step, weight}
+use Rattle.c_machine.specs.Stepped.{rounds_work, weight_step, weight}
 
 -- statements one after another
 abbrev pub weights : List Stmt → ℕ
@@ -27,6 +27,27 @@ weight_inline target arguments vars gives stmts = ap weight (sym (stmt.rolls-Inl
 
 pub weight_if : (test : Expr) (chosen other : List Stmt) → weight (stmt.If test chosen other) ≡ weights chosen + weights other + 2
 weight_if test chosen other = ap weight (sym (stmt.rolls-If test chosen other)) ∙ weight_layer (layer.If test chosen other)
+
+pub weight_loop : (stmts : List Stmt) → weight (stmt.Loop stmts) ≡ 2
+weight_loop stmts = ap weight (sym (stmt.rolls-Loop stmts)) ∙ weight_layer (layer.Loop stmts)
+
+pub weight_count : (slot : Slot) (count : ℕ) (stmts : List Stmt) → weight (stmt.Count slot count stmts) ≡ rounds_work count (weights stmts) + 1
+weight_count slot count stmts = ap weight (sym (stmt.rolls-Count slot count stmts)) ∙ weight_layer (layer.Count slot count stmts)
+
+pub weight_break : weight stmt.Break ≡ 1
+weight_break = ap weight (sym stmt.rolls-Break) ∙ weight_layer layer.Break
+
+pub weight_get : (slot : Slot) → weight (stmt.Get slot) ≡ 1
+weight_get slot = ap weight (sym (stmt.rolls-Get slot)) ∙ weight_layer (layer.Get slot)
+
+-- one round less
+pub round_less : (from end body : ℕ) → end - from ≡ suc (end - (from + 1)) → rounds_work (end - from) body ≡ body + 2 + rounds_work (end - (from + 1)) body
+round_less from end body e =
+    let rest = end - (from + 1) in
+    ap (λ count. rounds_work count body) e ∙ opened rest
+  where
+    opened : (rest : ℕ) → rounds_work (suc rest) body ≡ body + 2 + rounds_work rest body
+    opened rest = omega arith
 
 pub weight_return : (value : Option Expr) → weight (stmt.Return value) ≡ 1
 weight_return value = ap weight (sym (stmt.rolls-Return value)) ∙ weight_layer (layer.Return value)

@@ -5,5 +5,6 @@ pub mod Naming
 pub mod Related
 pub mod Resolved
 pub mod Resume
+pub mod Outside
 pub mod Stepped
 pub mod Ran

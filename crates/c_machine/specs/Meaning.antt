@@ -1,9 +1,9 @@
 -- What a resolved program does, as a run. It is the meaning of C with numbers for names and no bytes of frames.
-use Rattle.std.specs.Prelude.{ℕ, ℤ, pos, negsuc, List, [], ◌∷◌, Bool, true, false, not, nat_le, Option, None, Some, map, replicate, slice_get}
-use Rattle.sl_run.specs.Run.{Stuck, Act, Over, Went, pure, over, ◌>>=◌, ◌>>◌, choose, put, turn, calls}
+use Rattle.std.specs.Prelude.{ℕ, zero, suc, ℤ, pos, negsuc, List, [], ◌∷◌, Bool, true, false, not, nat_le, Option, None, Some, map, replicate, slice_get}
+use Rattle.sl_run.specs.Run.{Stuck, Act, Over, Went, pure, over, ◌>>=◌, ◌>>◌, choose, put, get, turn, round_then, loop, calls}
 use Rattle.sl_run.specs.Run as run
 use Rattle.sl_run.specs.Outcome.{Outcome, whole_run}
-use Rattle.c_tree.specs.Meaning.{Flow, Next, Returned, is_zero}
+use Rattle.c_tree.specs.Meaning.{Flow, Next, Broke, Returned, is_zero, after_round, gotten}
 use Rattle.c_machine.specs.declared.program.Slot.{Slot}
 use Rattle.c_machine.specs.declared.program.Expr.{Expr}
 use Rattle.c_machine.specs.declared.program.Stmt.{Stmt, Stmt-F, fold-Stmt}
@@ -38,9 +38,10 @@ Meaning = Calls → Act State Flow
 -- what comes after a statement that was left so
 abbrev pub then_on : Act State Flow → Flow → Act State Flow
 then_on go Next = go
+then_on go Broke = pure Broke
 then_on go (Returned value) = pure (Returned value)
 
--- statements in order, up to a return
+-- statements in order, up to a break or a return
 abbrev pub in_order : List Meaning → Meaning
 in_order [] call = pure Next
 in_order (m ∷ ms) call = m call >>= then_on (in_order ms call)
@@ -63,9 +64,11 @@ has_target (Some slot) = is_declared slot
 abbrev pub call_to : Option Slot → List Expr → (List ℤ → Act State (Option ℤ)) → Act State Flow
 call_to target arguments call = choose (has_target target) (with_value (numbers arguments) call >>= store_result target >> pure Next) stuck
 
--- what a function gives whose statements were left so, where it has a result or not. One with a result has to return
+-- what a function gives whose statements were left so, where it has a result or not. One with a result has to return, and a break
+-- has to stand in a loop
 abbrev pub given : Bool → Flow → Act State (Option ℤ)
 given gives (Returned value) = pure value
+given gives Broke = stuck
 given false Next = pure None
 given true Next = stuck
 
@@ -94,6 +97,20 @@ abbrev pub put_number : ℤ → Act State Flow
 put_number (pos byte) = choose (nat_le byte 255) (put byte >> pure Next) stuck
 put_number (negsuc below) = stuck
 
+-- a round of a loop, and how the loop is left after it, or nothing where it goes round again
+abbrev pub round : Act State Flow → Act State (Option Flow)
+round body = body >>= (λ flow. pure (after_round flow))
+
+-- the rounds of a counted loop from a count on, so many of them: the count is stored, and the body is done; after the last one the
+-- count at which the test fails is stored. No round takes a turn
+abbrev pub rounds : Slot → Act State Flow → (from count : ℕ) → Act State Flow
+rounds slot body from zero = write slot (pos from) >> pure Next
+rounds slot body from (suc count) = write slot (pos from) >> (body >>= (λ flow. round_then (after_round flow) (rounds slot body (suc from) count)))
+
+-- the next byte of the input is asked for, and stored as a number; at the end of the input the number is -1
+abbrev pub get_to : Slot → Act State (Unit {0})
+get_to slot = get >>= (λ answer. write slot (gotten answer))
+
 abbrev pub returned : Option Expr → Act State Flow
 returned None = pure (Returned None)
 returned (Some e) = with_value (value e) (λ x. pure (Returned (Some x.number)))
@@ -105,8 +122,12 @@ stmt_step (stmt.Call target arguments function) call = call_to target arguments 
 stmt_step (stmt.Inline target arguments vars gives stmts) call = call_to target arguments (λ numbers. begin_inline vars numbers >> body gives stmts call)
 stmt_step stmt.Undefined call = stuck
 stmt_step (stmt.If test chosen other) call = with_value (value test) (λ x. choose (not (is_zero x.number)) (in_order chosen call) (in_order other call))
+stmt_step (stmt.Loop stmts) call = loop (round (in_order stmts call))
+stmt_step (stmt.Count slot count stmts) call = choose (is_declared slot) (rounds slot (in_order stmts call) 0 count) stuck
+stmt_step stmt.Break call = pure Broke
 stmt_step (stmt.Return value) call = returned value
 stmt_step (stmt.Put e) call = with_value (value e) (λ x. put_number x.number)
+stmt_step (stmt.Get slot) call = choose (is_declared slot) (get_to slot >> pure Next) stuck
 stmt_step (stmt.Halt kind file line) call = over (run.Halt kind file line)
 
 unfoldable pub meaning : Stmt → Meaning

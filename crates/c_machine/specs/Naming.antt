@@ -1,7 +1,6 @@
 -- What names mean where a function of C is resolved.
 use Rattle.std.specs.Prelude.{◌≡◌, ℕ, List, Option, None, Some, true, option_map, slice_get}
 use Rattle.std.specs.Option.{option_and_then}
-use Rattle.std.specs.BTreeMap.{get_by_text}
 use Rattle.c_tree.specs.declared.tree.CPlace.{CPlace}
 use Rattle.c_tree.specs.declared.tree.CPlace.TheVariants.{Name}
 use Rattle.c_tree.specs.declared.tree.CVar.{CVar}
@@ -9,7 +8,8 @@ use Rattle.c_tree.specs.Scope.{Scope, number_named}
 use Rattle.c_tree.specs.Meaning.{kind_is_signed}
 use Rattle.c_machine.specs.declared.program.Slot.TheVariants.{Local, Global, Undeclared}
 use Rattle.c_machine.specs.declared.program.Function.{Function}
-use Rattle.c_machine.specs.declared.names.Names.{Names}
+use Rattle.c_rules.specs.declared.naming.Names.{Names}
+use Rattle.c_rules.specs.Naming.{item_named}
 use Rattle.c_machine.specs.declared.scopes.Variable.{Variable}
 use Rattle.c_machine.specs.declared.scopes.Place.{Place}
 use Rattle.c_machine.specs.declared.scopes.Around.{Around}
@@ -19,10 +19,6 @@ use Rattle.c_machine.specs.declared.scopes.Callee.TheVariants.{Numbered, Inline,
 -- the name of a place
 abbrev pub name_of : CPlace → List ℕ
 name_of (Name name) = name
-
--- the item with this name
-abbrev pub item_named : {T : Type 0} → Names T → List ℕ → Option T
-item_named names name = get_by_text names.items name
 
 -- the first variable of a list with this name
 abbrev pub first_named : List CVar → List ℕ → Option Variable

@@ -7,14 +7,15 @@ use Rattle.c_tree.specs.declared.tree.CFun.{CFun}
 use Rattle.c_tree.specs.declared.tree.CType.{CType}
 use Rattle.c_tree.specs.declared.tree.CType.TheVariants.{Int, Void}
 use Rattle.c_tree.specs.Meaning.{inline_callees, c_run}
-use Rattle.c_machine.specs.declared.names.Names.{Names}
+use Rattle.c_rules.specs.declared.naming.Names.{Names}
 use Rattle.c_machine.specs.declared.program.Function.{Function}
 use Rattle.c_machine.specs.declared.program.Program.{Program}
 use Rattle.c_machine.specs.declared.scopes.Place.{Place}
 use Rattle.c_machine.specs.declared.scopes.Callee.{Callee}
 use Rattle.c_machine.specs.declared.scopes.Variable.{Variable}
 use Rattle.c_machine.specs.Meaning.{Calls, program_run}
-use Rattle.c_machine.specs.Naming.{item_named, AreVars, ArePlaces, callee_in}
+use Rattle.c_machine.specs.Naming.{AreVars, ArePlaces, callee_in}
+use Rattle.c_rules.specs.Naming.{item_named}
 use Rattle.c_machine.specs.Related.{Pairwise, AreCallees, DoAs}
 
 -- whether a function has a result

@@ -2,14 +2,15 @@
 ghost use Rattle.std.specs.Prelude.{◌≡◌, ℕ, List, ◌∷◌, [], ◌++◌, length, IfOk, OnOk, None};
 ghost use Rattle.c_tree.specs.declared.tree.CFile.{CFile};
 ghost use Rattle.c_tree.specs.declared.tree.CFun.{CFun};
-ghost use Rattle.c_machine.specs.Naming.{AreVars, item_named};
+ghost use Rattle.c_machine.specs.Naming.{AreVars};
+ghost use Rattle.c_rules.specs.Naming.{item_named};
 ghost use Rattle.c_machine.specs.Resolved.{AreInlines, AreNumbers, FunctionIs, FunctionsAre, InlinesOf, callees_of, has_result};
 
-use crate::names::Names;
 use crate::program::Function;
 use crate::scopes::{Around, Variable};
 use crate::statements::resolve_block;
 use crate::variables::{count, next, number_vars};
+use c_rules::Names;
 use c_tree::{CFun, CType};
 use sl_text::{Mem, Row};
 use std::alloc::Global;

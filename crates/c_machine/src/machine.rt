@@ -1,7 +1,9 @@
 ghost use Rattle.std.specs.Prelude.{◌≡◌, ◌-◌, IfOk, Ok, None};
 ghost use Rattle.sl_outside.specs.Sink.{sink_state};
+ghost use Rattle.sl_outside.specs.Source.{source_state};
 ghost use Rattle.c_tree.specs.Meaning.{c_run};
 ghost use Rattle.c_machine.specs.Meaning.{program_run};
+ghost use Rattle.c_machine.specs.Outside.{outside};
 ghost use Rattle.c_machine.specs.Ran.{Opened, Runs, Steps, stands_after};
 
 use crate::configuration::Configuration;
@@ -21,7 +23,7 @@ enum Standing {
     Failed(StepFault),
 }
 
-/// What a run has taken so far.
+/// What a run has taken so far: its turns, each the beginning of a round of a loop or of a call.
 #[derive(Clone, Copy, Debug, PartialEq, Eq)]
 pub struct Report {
     pub turns: u64,
@@ -36,7 +38,8 @@ pub struct Machine {
 }
 
 impl Machine {
-    /// A machine that is to run a checked file, in at most so many turns.
+    /// A machine that is to run a checked file, in at most so many turns. The error comes also where the file has 2^32 globals or
+    /// functions, or more, or one of its functions so many parameters or variables.
     pub fn open(alloc: Global, file: Checked, turns: u64) -> Result<Machine, Mem>
         ensures { IfOk result (λ machine. Opened (λ input. c_run file.file None input turns) turns machine) }
     {
@@ -49,7 +52,7 @@ impl Machine {
         ensures { IfOk result (λ machine. Opened (λ input. program_run program input turns) turns machine) }
     {
         let mut at = Configuration::new(alloc, program, turns)?;
-        let standing = standing_after(at.start(alloc)?);
+        let standing = standing_after(&Ok(at.start(alloc)?));
         Ok(Machine {
             at,
             turns,
@@ -57,29 +60,27 @@ impl Machine {
         })
     }
 
-    /// Does one statement, or begins one turn or call, or ends a block or a call.
+    /// Does one statement, or begins one turn, round or call, or ends a block, a loop or a call.
     pub fn step<S: Source, K: Sink>(
         &mut self,
         alloc: Global,
         input: &mut S,
         out: &mut K,
     ) -> Result<State, StepFault>
-        ensures steps { Steps self.old.standing self.old (sink_state (K.held out.old) (K.faults out.old) (K.calls out.old)) self.new (sink_state (K.held out.new) (K.faults out.new) (K.calls out.new)) result }
-        ensures input { input.new ≡ input.old }
+        ensures { Steps self.old.standing self.old
+            (outside (source_state (S.left input.old) (S.faults input.old) (S.calls input.old)) (sink_state (K.held out.old) (K.faults out.old) (K.calls out.old)))
+            self.new
+            (outside (source_state (S.left input.new) (S.faults input.new) (S.calls input.new)) (sink_state (K.held out.new) (K.faults out.new) (K.calls out.new)))
+            result }
     {
         match self.standing {
             Standing::Ended(end) => Ok(State::Ended(end)),
             Standing::Failed(fault) => Err(fault),
-            Standing::Going => match self.at.advance(alloc, out) {
-                Ok(state) => {
-                    self.standing = standing_after(state);
-                    Ok(state)
-                }
-                Err(fault) => {
-                    self.standing = Standing::Failed(fault);
-                    Err(fault)
-                }
-            },
+            Standing::Going => {
+                let answer = self.at.advance(alloc, input, out);
+                self.standing = standing_after(&answer);
+                answer
+            }
         }
     }
 
@@ -90,13 +91,16 @@ impl Machine {
         input: &mut S,
         out: &mut K,
     ) -> Result<End, StepFault>
-        ensures runs { Runs self.old.standing self.old (sink_state (K.held out.old) (K.faults out.old) (K.calls out.old)) self.new (sink_state (K.held out.new) (K.faults out.new) (K.calls out.new)) result }
-        ensures input { input.new ≡ input.old }
+        ensures { Runs self.old.standing self.old
+            (outside (source_state (S.left input.old) (S.faults input.old) (S.calls input.old)) (sink_state (K.held out.old) (K.faults out.old) (K.calls out.old)))
+            self.new
+            (outside (source_state (S.left input.new) (S.faults input.new) (S.calls input.new)) (sink_state (K.held out.new) (K.faults out.new) (K.calls out.new)))
+            result }
     {
         match self.standing {
             Standing::Ended(end) => Ok(end),
             Standing::Failed(fault) => Err(fault),
-            Standing::Going => match self.at.run(alloc, out) {
+            Standing::Going => match self.at.run(alloc, input, out) {
                 Ok(end) => {
                     self.standing = Standing::Ended(end);
                     Ok(end)
@@ -109,7 +113,7 @@ impl Machine {
         }
     }
 
-    /// The turns taken so far.
+    /// The turns taken so far. A turn that was to be taken where memory ran out isn't among them.
     pub fn report(&self) -> Report
         ensures { result.turns ≡ self.now.turns - self.now.at.left }
     {
@@ -119,12 +123,13 @@ impl Machine {
     }
 }
 
-/// Where a machine stands after a step that left it so.
-fn standing_after(state: State) -> Standing
-    ensures { result ≡ stands_after (Ok state) }
+/// Where a machine stands after a step that answered so.
+fn standing_after(answer: &Result<State, StepFault>) -> Standing
+    ensures { result ≡ stands_after answer.now }
 {
-    match state {
-        State::Going => Standing::Going,
-        State::Ended(end) => Standing::Ended(end),
+    match answer {
+        Ok(State::Going) => Standing::Going,
+        Ok(State::Ended(end)) => Standing::Ended(*end),
+        Err(fault) => Standing::Failed(*fault),
     }
 }

@@ -41,14 +41,22 @@ pub enum Stmt {
     Call(Option<Slot>, Row<Expr>, u32),
     /// An inline function is called: how many variables it has behind its parameters, whether it has a result, and its statements.
     Inline(Option<Slot>, Row<Expr>, u32, bool, Shared<Row<Stmt>>),
-    /// A call of a function that isn't declared.
+    /// A call that leads to no function: an undefined case, whatever its arguments are.
     Undefined,
     /// The first statements where the number isn't 0, and else the second ones.
     If(Expr, Shared<Row<Stmt>>, Shared<Row<Stmt>>),
+    /// The statements are done again and again, up to a break or a return. Each round takes a turn.
+    Loop(Shared<Row<Stmt>>),
+    /// The statements are done so often, up to a break or a return, with the numbers from 0 on in the variable. No round takes a turn.
+    Count(Slot, u32, Shared<Row<Stmt>>),
+    /// The innermost loop ends.
+    Break,
     /// The function ends, with a result or without one.
     Return(Option<Expr>),
     /// The number is put as a byte.
     Put(Expr),
+    /// The next byte of the input is stored in the variable, or -1 at its end.
+    Get(Slot),
     /// The run ends in a halt of this kind, at this line of this file.
     Halt(u8, u32, u32),
 }

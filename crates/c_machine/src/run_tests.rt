@@ -1,6 +1,7 @@
 use crate::{End, Expr, Function, Machine, Program, Slot, State, StepFault, Stmt};
+use sl_num::Comparison;
 use sl_outside::{MemorySink, SureSource};
-use sl_text::{Row, Shared};
+use sl_text::{Boxed, Row, Shared};
 use std::alloc::{AllocError, Global};
 use std::test::Fail;
 
@@ -37,6 +38,38 @@ fn calling(alloc: Global) -> Result<Program, AllocError> {
     program(alloc, body)
 }
 
+/// What the variable holds.
+fn held() -> Expr {
+    Expr::Read(Slot::Local(0), true)
+}
+
+/// Puts the bytes of the input up to its end, and returns what it got there.
+fn copying(alloc: Global) -> Result<Program, AllocError> {
+    let zero = Boxed::new(alloc, Expr::Const(true, 0))?;
+    let at_end = Expr::Compare(Comparison::Less, Boxed::new(alloc, held())?, zero);
+    let mut leave = Row::new(alloc);
+    leave.push(Stmt::Break)?;
+    let mut put = Row::new(alloc);
+    put.push(Stmt::Put(held()))?;
+    let mut turn = Row::new(alloc);
+    turn.push(Stmt::Get(Slot::Local(0)))?;
+    turn.push(Stmt::If(at_end, Shared::new(alloc, leave)?, Shared::new(alloc, put)?))?;
+    let mut body = Row::new(alloc);
+    body.push(Stmt::Loop(Shared::new(alloc, turn)?))?;
+    body.push(Stmt::Return(Some(held())))?;
+    program(alloc, body)
+}
+
+/// Puts the numbers below 2, and returns what the variable holds then.
+fn counting(alloc: Global) -> Result<Program, AllocError> {
+    let mut round = Row::new(alloc);
+    round.push(Stmt::Put(held()))?;
+    let mut body = Row::new(alloc);
+    body.push(Stmt::Count(Slot::Local(0), 2, Shared::new(alloc, round)?))?;
+    body.push(Stmt::Return(Some(held())))?;
+    program(alloc, body)
+}
+
 fn with(alloc: Global, stmt: Stmt) -> Result<Program, AllocError> {
     let mut body = Row::new(alloc);
     body.push(stmt)?;
@@ -66,6 +99,29 @@ fn a_call_needs_a_turn(rt: HostRuntime) -> Result<(), Fail> {
     assert!(rt; machine.run(alloc, &mut input, &mut out) == Ok(End::TurnsSpent));
     assert_eq!(rt; out.bytes(), b"".as_slice());
     assert_eq!(rt; machine.report().turns, 0);
+    Ok(())
+}
+
+#[test]
+fn a_loop_gets_bytes_up_to_the_end(rt: HostRuntime) -> Result<(), Fail> {
+    let alloc = rt.alloc();
+    let mut machine = Machine::begin(alloc, copying(alloc)?, 3)?;
+    let mut input = SureSource::new(Row::from_slice(alloc, b"ab")?);
+    let mut out = MemorySink::new(alloc, 8, Row::new(alloc))?;
+    assert!(rt; machine.run(alloc, &mut input, &mut out) == Ok(End::Done(-1)));
+    assert_eq!(rt; out.bytes(), b"ab".as_slice());
+    assert_eq!(rt; machine.report().turns, 3);
+    Ok(())
+}
+
+#[test]
+fn a_counted_loop_takes_no_turn(rt: HostRuntime) -> Result<(), Fail> {
+    let alloc = rt.alloc();
+    let mut machine = Machine::begin(alloc, counting(alloc)?, 0)?;
+    let mut input = SureSource::new(Row::new(alloc));
+    let mut out = MemorySink::new(alloc, 8, Row::new(alloc))?;
+    assert!(rt; machine.run(alloc, &mut input, &mut out) == Ok(End::Done(2)));
+    assert_eq!(rt; out.bytes(), [0, 1].as_slice());
     Ok(())
 }
 

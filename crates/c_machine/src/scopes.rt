@@ -2,8 +2,8 @@
 ghost use Rattle.std.specs.Prelude.{◌≡◌, ℕ, ◌+◌, List, ◌++◌, length, IfOk, OnOk, Some, None};
 ghost use Rattle.c_machine.specs.Naming.{callee_named, name_of, place_named};
 
-use crate::names::Names;
 use crate::program::{Function, Slot};
+use c_rules::Names;
 use c_tree::{CPlace, CType, CVar};
 use sl_text::{Mem, Text};
 use std::alloc::Global;
@@ -50,7 +50,7 @@ impl Around<'_> {
     }
 
     /// The variable that a name means.
-    fn place_named(&self, name: &Text) -> Place
+    pub fn place_named(&self, name: &Text) -> Place
         ensures { result ≡ place_named self.now name.now }
     {
         if let Some(local) = self.locals.get(name.as_str()) {

@@ -22,6 +22,7 @@ impl Configuration {
             control: Stack::new(alloc),
             flow: Flow::Next,
             gives: false,
+            at_end: false,
             left: turns,
         })
     }

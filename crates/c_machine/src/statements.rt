@@ -53,8 +53,16 @@ fn resolve_stmt(alloc: Global, around: &Around, stmt: &CStmt) -> Result<Stmt, Me
                 }
             }
         }
+        CStmt::Loop(body) => Ok(Stmt::Loop(resolve_block(alloc, around, body.as_slice())?)),
+        CStmt::Count(set, _, count, _, body) => {
+            let place = around.place_named(set);
+            let body = resolve_block(alloc, around, body.as_slice())?;
+            Ok(Stmt::Count(place.slot, *count, body))
+        }
+        CStmt::Break => Ok(Stmt::Break),
         CStmt::Return(value) => resolve_return(alloc, around, value),
         CStmt::Put(e) => Ok(Stmt::Put(resolve_expr(alloc, around, e)?)),
+        CStmt::Get(place) => Ok(Stmt::Get(around.place(place).slot)),
         CStmt::Halt(kind, file, line) => Ok(Stmt::Halt(*kind, *file, *line)),
     }
 }

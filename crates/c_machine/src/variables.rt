@@ -4,8 +4,8 @@ ghost use Rattle.c_tree.specs.declared.tree.CVar.{CVar};
 ghost use Rattle.c_tree.specs.Meaning.{kind_is_signed};
 ghost use Rattle.c_machine.specs.Naming.{AreVars};
 
-use crate::names::Names;
 use crate::scopes::Variable;
+use c_rules::Names;
 use c_tree::{CType, CVar};
 use sl_text::Mem;
 use std::alloc::Global;

@@ -1,5 +1,6 @@
 use Rattle.std.proofs.Common.{subst}
-use Rattle.c_machine.specs.Naming.{item_named, callee_in}
+use Rattle.c_machine.specs.Naming.{callee_in}
+use Rattle.c_rules.specs.Naming.{item_named}
 use Rattle.c_machine.specs.Resolved.{FunctionIs}
 use Rattle.c_machine.proofs.Calling.{same_inlines, more_inlines}
 use Rattle.c_machine.proofs.functions.add_inline.Goals as goal

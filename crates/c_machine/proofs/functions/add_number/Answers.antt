@@ -1,6 +1,6 @@
 use Rattle.std.proofs.Common.{sym, ap, ◌∙◌}
 use Rattle.std.specs.Option.{is_some}
-use Rattle.c_machine.specs.Naming.{item_named}
+use Rattle.c_rules.specs.Naming.{item_named}
 use Rattle.c_machine.proofs.Numbering.{numbers_skip, numbers_keep, numbers_more}
 use Rattle.c_machine.proofs.functions.add_number.Goals as goal
 

@@ -1,6 +1,6 @@
 use Rattle.std.proofs.Common.{[], take, refl, subst, arith}
 use Rattle.c_machine.specs.Resolved.{AreNumbers}
-use Rattle.c_machine.proofs.Numbering.{appended, reached}
+use Rattle.c_rules.proofs.Keeping.{appended, reached}
 use Rattle.c_machine.proofs.functions.number_functions.Goals as goal
 
 pub loop-function-preserved : goal.loop-function-preserved

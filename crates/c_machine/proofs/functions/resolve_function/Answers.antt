@@ -1,6 +1,7 @@
 use Rattle.std.proofs.Common.{ℕ, List, ap₂, ◌∙◌, subst}
 use Rattle.c_machine.specs.declared.scopes.Place.{Place}
-use Rattle.c_machine.specs.Naming.{item_named, place_in}
+use Rattle.c_machine.specs.Naming.{place_in}
+use Rattle.c_rules.specs.Naming.{item_named}
 use Rattle.c_machine.specs.Related.{DoAs}
 use Rattle.c_machine.specs.Resolved.{callees_of}
 use Rattle.c_machine.proofs.functions.resolve_function.Goals as goal

@@ -1,7 +1,7 @@
 use Rattle.std.proofs.Common.{ℕ, Bool, sym, ap, ap₂, ◌∙◌}
 use Rattle.std.specs.Option.{is_some}
 use Rattle.c_machine.specs.declared.scopes.Variable.{Variable}
-use Rattle.c_machine.specs.Naming.{item_named}
+use Rattle.c_rules.specs.Naming.{item_named}
 use Rattle.c_machine.proofs.Numbering.{vars_keep, vars_more}
 use Rattle.c_machine.proofs.variables.add_var.Goals as goal
 

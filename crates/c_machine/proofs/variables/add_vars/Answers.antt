@@ -1,6 +1,6 @@
 use Rattle.std.proofs.Common.{◌++◌, take, subst, arith}
 use Rattle.c_machine.specs.Naming.{AreVars}
-use Rattle.c_machine.proofs.Numbering.{appended, reached}
+use Rattle.c_rules.proofs.Keeping.{appended, reached}
 use Rattle.c_machine.proofs.variables.add_vars.Goals as goal
 
 pub loop-var-preserved : goal.loop-var-preserved

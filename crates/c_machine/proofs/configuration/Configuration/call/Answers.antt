@@ -19,5 +19,5 @@ returns-then-self-eq0 c =
 pub returns : goal.returns
 returns c =
     let held = held_numbers (ready c.args.target c.args.arguments.now (state_of c.args.self.now.memory)) c.in-Some.cells (sym c.in-Some.is ∙ (c.in_ok-cells.ensures {u = tt})) in
-    call_goes c.args.self.now c.args.target c.args.arguments.now c.args.function held.0 (c.args.self.now.left - 1) c.enter.result c.enter.new.self held.1 (omega arith)
+    call_goes c.args.self.now c.args.target c.args.arguments.now c.args.function held.0 (c.args.self.now.left - 1) c.enter.result c.enter.new.self held.1 (omega (arith, c.if-self-eq0.false))
     (c.enter.ensures held.0 held.2 (weight (stmt.Call c.args.target c.args.arguments.now c.args.function) + work c.args.self.now.control))

@@ -13,6 +13,6 @@ returns-in_default c =
 pub returns : goal.returns
 returns c =
     let held = held_numbers (ready c.args.target c.args.arguments.now (state_of c.args.self.now.memory)) c.in-Some.cells (sym c.in-Some.is ∙ (c.in_ok-cells.ensures {u = tt})) in
-    rw c.in_ok-begin.ensures
+    rw c.in_ok-begin.ensures.stacked
     (inline_goes c.args.self.now c.args.target c.args.arguments.now c.args.vars c.args.gives c.args.body held.0 c.in_ok-frame.frame c.requires held.1
     ((c.in_ok-frame.ensures {u = tt}) ∙ (λ k. record { owner = c.owner.ensures k; cells = held.2 k ++ replicate c.args.vars None })))
