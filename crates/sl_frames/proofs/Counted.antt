@@ -10,9 +10,9 @@ use Rattle.sl_core.specs.declared.tree.CoreStmt.{CoreStmt}
 use Rattle.sl_core.specs.declared.tree.CoreStmt.TheVariants as stmt
 use Rattle.sl_core.specs.declared.tree.CoreFun.{CoreFun}
 use Rattle.c_tree.specs.declared.tree.CVar.{CVar}
-use Rattle.c_tree.specs.declared.tree.CStmt.TheVariants.{If}
+use Rattle.c_tree.specs.declared.tree.CStmt.TheVariants.{If, Loop}
 use Rattle.sl_frames.specs.Translated.{declared, named_from, of_each, with_value, else_of, joined, stmts_of}
-use Rattle.sl_frames.proofs.Variants.{stmts_of_if}
+use Rattle.sl_frames.proofs.Variants.{stmts_of_if, stmts_of_loop}
 
 -- one more name, from any number on
 named_from_last : (name : ℕ → List ℕ) (first count : ℕ) → named_from name first (suc count) ≡ named_from name first count ++ declared (name (first + count)) ∷ []
@@ -82,3 +82,7 @@ stmts_of_choice core test chosen other =
     stmts_of_if core test chosen other
     ∙ (ap (λ stmts. with_value test (λ value. If value stmts (else_of (joined (map (stmts_of core) other))))) (flat_map-map (λ block. block) (stmts_of core) chosen)
     ∙ ap (λ stmts. with_value test (λ value. If value (flat_map (stmts_of core) chosen) (else_of stmts))) (flat_map-map (λ block. block) (stmts_of core) other))
+
+-- the C of a loop, with that of its statements one behind another
+pub stmts_of_rounds : (core : Core) (stmts : List CoreStmt) → stmts_of core (stmt.Loop stmts) ≡ Loop (flat_map (stmts_of core) stmts) ∷ []
+stmts_of_rounds core stmts = stmts_of_loop core stmts ∙ ap (λ block. Loop block ∷ []) (flat_map-map (λ block. block) (stmts_of core) stmts)

@@ -7,6 +7,7 @@ pub mod Scopes
 pub mod Inside
 pub mod Codes
 pub mod Blocks
+pub mod Loops
 pub mod Lists
 pub mod Needs
 pub mod Functions

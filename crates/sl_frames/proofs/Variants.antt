@@ -12,7 +12,7 @@ use Rattle.sl_core.specs.declared.tree.CoreStmt.{CoreStmt}
 use Rattle.sl_core.specs.declared.tree.CoreStmt.TheOpen as stmt_layer
 use Rattle.sl_core.specs.declared.tree.CoreStmt.TheVariants as stmt
 use Rattle.c_tree.specs.declared.tree.CExpr.TheVariants.{Read, Compare}
-use Rattle.c_tree.specs.declared.tree.CStmt.TheVariants.{Assign, Call, If, Return, Halt}
+use Rattle.c_tree.specs.declared.tree.CStmt.TheVariants.{Assign, Call, If, Loop, Break, Return, Get, Halt}
 use Rattle.c_helpers.specs.Functions.{constant}
 use Rattle.sl_frames.specs.Names.{place_of, called_name}
 use Rattle.sl_frames.specs.Translated.{number_expr, temporary, operate, code_of, with_value, text_of, put_code, else_of, joined, stmts_of, needed, greatest, needs}
@@ -98,6 +98,14 @@ module _ (core : Core) where
       ≡ with_value test (λ value. If value (joined (map (stmts_of core) chosen)) (else_of (joined (map (stmts_of core) other))))
   stmts_of_if test chosen other = ap (stmts_of core) (sym (stmt.rolls-If test chosen other)) ∙ stmts_layer core (stmt_layer.If test chosen other)
 
+  -- of a loop
+  pub stmts_of_loop : (stmts : List CoreStmt) → stmts_of core (stmt.Loop stmts) ≡ Loop (joined (map (stmts_of core) stmts)) ∷ []
+  stmts_of_loop stmts = ap (stmts_of core) (sym (stmt.rolls-Loop stmts)) ∙ stmts_layer core (stmt_layer.Loop stmts)
+
+  -- of a break
+  pub stmts_of_break : stmts_of core stmt.Break ≡ Break ∷ []
+  stmts_of_break = ap (stmts_of core) (sym stmt.rolls-Break) ∙ stmts_layer core stmt_layer.Break
+
   -- of a call
   pub stmts_of_call : (target : Option CorePath) (number : ℕ)
       → stmts_of core (stmt.Call target number)
@@ -108,6 +116,10 @@ module _ (core : Core) where
   pub stmts_of_put : (e : CoreExpr) → stmts_of core (stmt.Put e) ≡ put_code (text_of e) e
   stmts_of_put e = ap (stmts_of core) (sym (stmt.rolls-Put e)) ∙ stmts_layer core (stmt_layer.Put e)
 
+  -- of a byte that is asked for
+  pub stmts_of_get : (path : CorePath) → stmts_of core (stmt.Get path) ≡ Get (place_of path) ∷ []
+  stmts_of_get path = ap (stmts_of core) (sym (stmt.rolls-Get path)) ∙ stmts_layer core (stmt_layer.Get path)
+
   -- of a halt
   pub stmts_of_halt : (kind file line : ℕ) → stmts_of core (stmt.Halt kind file line) ≡ Halt kind file line ∷ []
   stmts_of_halt kind file line = ap (stmts_of core) (sym (stmt.rolls-Halt kind file line)) ∙ stmts_layer core (stmt_layer.Halt kind file line)
@@ -116,7 +128,7 @@ module _ (core : Core) where
   pub stmts_of_return : (e : CoreExpr) → stmts_of core (stmt.Return e) ≡ with_value e (λ value. Return (Some value))
   stmts_of_return e = ap (stmts_of core) (sym (stmt.rolls-Return e)) ∙ stmts_layer core (stmt_layer.Return e)
 
-pub ruleset all_stmts_of = (stmts_of_store, stmts_of_if, stmts_of_call, stmts_of_put, stmts_of_halt, stmts_of_return)
+pub ruleset all_stmts_of = (stmts_of_store, stmts_of_if, stmts_of_loop, stmts_of_break, stmts_of_call, stmts_of_put, stmts_of_get, stmts_of_halt, stmts_of_return)
 
 -- How many temporaries statements need --------------------------------------------------------------------------------
 
@@ -128,6 +140,14 @@ needs_of_store path e = ap needs (sym (stmt.rolls-Store path e)) ∙ needs_layer
 pub needs_of_if : (test : CoreExpr) (chosen other : List CoreStmt) → needs (stmt.If test chosen other) ≡ max (needed test) (max (greatest (map needs chosen)) (greatest (map needs other)))
 needs_of_if test chosen other = ap needs (sym (stmt.rolls-If test chosen other)) ∙ needs_layer (stmt_layer.If test chosen other)
 
+-- a loop
+pub needs_of_loop : (stmts : List CoreStmt) → needs (stmt.Loop stmts) ≡ greatest (map needs stmts)
+needs_of_loop stmts = ap needs (sym (stmt.rolls-Loop stmts)) ∙ needs_layer (stmt_layer.Loop stmts)
+
+-- a break
+pub needs_of_break : needs stmt.Break ≡ 0
+needs_of_break = ap needs (sym stmt.rolls-Break) ∙ needs_layer stmt_layer.Break
+
 -- a call
 pub needs_of_call : (target : Option CorePath) (number : ℕ) → needs (stmt.Call target number) ≡ 0
 needs_of_call target number = ap needs (sym (stmt.rolls-Call target number)) ∙ needs_layer (stmt_layer.Call target number)
@@ -135,6 +155,10 @@ needs_of_call target number = ap needs (sym (stmt.rolls-Call target number)) ∙
 -- what is printed
 pub needs_of_put : (e : CoreExpr) → needs (stmt.Put e) ≡ needed e
 needs_of_put e = ap needs (sym (stmt.rolls-Put e)) ∙ needs_layer (stmt_layer.Put e)
+
+-- a byte that is asked for
+pub needs_of_get : (path : CorePath) → needs (stmt.Get path) ≡ 0
+needs_of_get path = ap needs (sym (stmt.rolls-Get path)) ∙ needs_layer (stmt_layer.Get path)
 
 -- a halt
 pub needs_of_halt : (kind file line : ℕ) → needs (stmt.Halt kind file line) ≡ 0
@@ -144,4 +168,4 @@ needs_of_halt kind file line = ap needs (sym (stmt.rolls-Halt kind file line)) �
 pub needs_of_return : (e : CoreExpr) → needs (stmt.Return e) ≡ needed e
 needs_of_return e = ap needs (sym (stmt.rolls-Return e)) ∙ needs_layer (stmt_layer.Return e)
 
-pub ruleset all_needs = (needs_of_store, needs_of_if, needs_of_call, needs_of_put, needs_of_halt, needs_of_return)
+pub ruleset all_needs = (needs_of_store, needs_of_if, needs_of_loop, needs_of_break, needs_of_call, needs_of_put, needs_of_get, needs_of_halt, needs_of_return)

@@ -22,7 +22,7 @@ use Rattle.c_tree.specs.declared.tree.CPlace.TheVariants.{Name}
 use Rattle.c_tree.specs.declared.tree.CExpr.{CExpr}
 use Rattle.c_tree.specs.declared.tree.CExpr.TheVariants.{Read, Binary, Compare, Negate}
 use Rattle.c_tree.specs.declared.tree.CStmt.{CStmt}
-use Rattle.c_tree.specs.declared.tree.CStmt.TheVariants.{Assign, Call, If, Return, Put, Halt}
+use Rattle.c_tree.specs.declared.tree.CStmt.TheVariants.{Assign, Call, If, Loop, Break, Return, Put, Get, Halt}
 use Rattle.c_tree.specs.Rules.{last_is, ends_function}
 use Rattle.c_helpers.specs.Functions.{constant, named, helper_functions}
 use Rattle.sl_frames.specs.Names.{variable_name, temporary_name, place_of, function_name, called_name}
@@ -136,8 +136,11 @@ joined blocks = flat_map (λ block. block) blocks
 abbrev pub stmts_step : Core → CoreStmt-F (List CStmt) → List CStmt
 stmts_step core (stmt.Store path e) = with_value e (Assign (place_of path))
 stmts_step core (stmt.If test chosen other) = with_value test (λ value. If value (joined chosen) (else_of (joined other)))
+stmts_step core (stmt.Loop stmts) = Loop (joined stmts) ∷ []
+stmts_step core stmt.Break = Break ∷ []
 stmts_step core (stmt.Call target number) = Call (option_map place_of target) (called_name core number (slice_get core.functions number)) [] ∷ []
 stmts_step core (stmt.Put e) = put_code (text_of e) e
+stmts_step core (stmt.Get path) = Get (place_of path) ∷ []
 stmts_step core (stmt.Halt kind file line) = Halt kind file line ∷ []
 stmts_step core (stmt.Return e) = with_value e (λ value. Return (Some value))
 
@@ -156,8 +159,11 @@ greatest numbers = fold max 0 numbers
 abbrev pub needs_step : CoreStmt-F ℕ → ℕ
 needs_step (stmt.Store path e) = needed e
 needs_step (stmt.If test chosen other) = max (needed test) (max (greatest chosen) (greatest other))
+needs_step (stmt.Loop stmts) = greatest stmts
+needs_step stmt.Break = 0
 needs_step (stmt.Call target number) = 0
 needs_step (stmt.Put e) = needed e
+needs_step (stmt.Get path) = 0
 needs_step (stmt.Halt kind file line) = 0
 needs_step (stmt.Return e) = needed e
 

@@ -93,7 +93,8 @@ fn next(number: usize) -> Result<usize, Mem>
     number.checked_add(1).ok_or(Mem)
 }
 
-/// A number from -2^64 to 2^64 - 1, which takes no literal beyond those of `uint64_t`. A sound core has no other.
+/// A number from -2^63 to 2^63 - 1, the only ones in a core whose types are all `int64_t`, in literals of `int64_t`. Numbers below
+/// -2^64 or from 2^64 on are answered as if memory ran out.
 fn number_expr(alloc: Global, number: i128) -> Result<CExpr, Mem>
     ensures { IfOk result (λ e. e ≡ number_expr number) }
 {

@@ -127,7 +127,7 @@ fn halt_at_zero(
     Ok(())
 }
 
-/// Adds `tN = LEFT OPERATOR RIGHT;`
+/// Adds `tN = (LEFT OPERATOR RIGHT);`
 fn set_temporary(
     alloc: Global,
     operator: CBinary,

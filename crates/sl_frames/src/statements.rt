@@ -3,7 +3,7 @@
 
 ghost use Rattle.std.specs.Prelude.{◌≡◌, [], ◌∷◌, ◌++◌, Some, map, max, option_map, slice_get, IfOk, OnOk};
 ghost use Rattle.std.specs.List.{flat_map};
-ghost use Rattle.c_tree.specs.declared.tree.CStmt.TheVariants.{Assign, Call, If, Return, Halt};
+ghost use Rattle.c_tree.specs.declared.tree.CStmt.TheVariants.{Assign, Call, If, Loop, Break, Return, Get, Halt};
 ghost use Rattle.sl_frames.specs.Names.{place_of, called_name};
 ghost use Rattle.sl_frames.specs.Translated.{with_value, put_byte, print, text_of, put_code, else_of, stmts_of, needed, greatest, needs};
 
@@ -38,7 +38,7 @@ pub fn translate_block(alloc: Global, stmts: &[CoreStmt], core: &Core) -> Result
 
 /// Adds a statement, and says how many temporaries it needs.
 #[cycle(statements)]
-#[tactic(auto, using(crate::proofs::Variants::all_stmts_of, crate::proofs::Variants::all_needs, crate::proofs::Counted::stmts_of_choice))]
+#[tactic(auto, using(crate::proofs::Variants::all_stmts_of, crate::proofs::Variants::all_needs, crate::proofs::Counted::stmts_of_choice, crate::proofs::Counted::stmts_of_rounds))]
 fn translate_stmt(
     alloc: Global,
     stmt: &CoreStmt,
@@ -55,8 +55,14 @@ fn translate_stmt(
             let other = translate_block(alloc, other.as_slice(), core)?;
             choose(alloc, test, chosen, other, body)
         }
+        CoreStmt::Loop(stmts) => {
+            let block = translate_block(alloc, stmts.as_slice(), core)?;
+            repeat(block, body)
+        }
+        CoreStmt::Break => leave_loop(body),
         CoreStmt::Call(target, number) => call(alloc, core, target, *number, body),
         CoreStmt::Put(e) => put(alloc, e, body),
+        CoreStmt::Get(path) => get(alloc, path, body),
         CoreStmt::Halt(kind, file, line) => halt(*kind, *file, *line, body),
         CoreStmt::Return(e) => give_back(alloc, e, body),
     }
@@ -77,6 +83,24 @@ fn choose(
     let test = translate(alloc, test, 0, body)?;
     body.push(CStmt::If(test.expr, chosen.stmts, else_of(other.stmts)))?;
     Ok(test.free.max(needs))
+}
+
+/// Adds a loop round a block.
+fn repeat(block: Block, body: &mut Row<CStmt>) -> Result<usize, Mem>
+    ensures stmts { OnOk result (body.new ≡ body.old ++ Loop block.stmts ∷ []) }
+    ensures needs { IfOk result (λ count. count ≡ block.needs) }
+{
+    body.push(CStmt::Loop(block.stmts))?;
+    Ok(block.needs)
+}
+
+/// Adds a break, which needs no temporaries.
+fn leave_loop(body: &mut Row<CStmt>) -> Result<usize, Mem>
+    ensures stmts { OnOk result (body.new ≡ body.old ++ Break ∷ []) }
+    ensures needs { IfOk result (λ count. count ≡ 0) }
+{
+    body.push(CStmt::Break)?;
+    Ok(0)
 }
 
 /// Adds a store.
@@ -104,6 +128,15 @@ fn call(
     let target = target_of(alloc, target)?;
     let name = called_name(alloc, core, number as usize)?;
     body.push(CStmt::Call(target, name, Row::new(alloc)))?;
+    Ok(0)
+}
+
+/// Adds what stores the next byte of the input, which needs no temporaries.
+fn get(alloc: Global, path: &CorePath, body: &mut Row<CStmt>) -> Result<usize, Mem>
+    ensures stmts { OnOk result (body.new ≡ body.old ++ Get (place_of path.now) ∷ []) }
+    ensures needs { IfOk result (λ count. count ≡ 0) }
+{
+    body.push(CStmt::Get(place_of(alloc, path)?))?;
     Ok(0)
 }
 

@@ -1,6 +1,6 @@
 -- The C of statements keeps the rules.
 use Rattle.std.proofs.Common.{◌≡◌, ℕ, ◌+◌, ◌≤◌, List, [], ◌∷◌, Bool, true, false, Option, Some, None, refl, sym, subst, arith, All, map, codes}
-use Rattle.std.specs.Prelude.{is_some, max, nat_lt, not, ◌==◌, ◌&&◌, if◌then◌else◌, slice_get, option_map}
+use Rattle.std.specs.Prelude.{pos, negsuc, is_some, max, nat_lt, not, ◌==◌, ◌&&◌, if◌then◌else◌, slice_get, option_map}
 use Rattle.std.specs.List.{list_all, fold}
 use Rattle.std.specs.Option.{option_and_then}
 use Rattle.std.proofs.lemmas.Bool.{and_parts, ltb-true}
@@ -14,21 +14,21 @@ use Rattle.sl_core.specs.declared.tree.CoreExpr.TheOpen as expr
 use Rattle.sl_core.specs.declared.tree.CoreStmt.{CoreStmt, CoreStmt-F, ind-CoreStmt, map-CoreStmt, roll-CoreStmt}
 use Rattle.sl_core.specs.declared.tree.CoreStmt.TheOpen as stmt
 use Rattle.sl_core.specs.Meaning.{root_of}
-use Rattle.sl_core.specs.Sound.{kind_of, is_number, is_number_of, place_has, type_of_place, result_fits, fits_step, fits, is_source_place, expr_range_step, expr_in_range, stmt_range_step, stmt_in_range, expr_depth, stmt_depth_step, stmt_depth}
+use Rattle.sl_core.specs.Sound.{type_has, kind_of, is_number, is_number_of, place_has, type_of_place, result_fits, fits_step, fits, is_source_place, expr_range_step, expr_in_range, stmt_range_step, stmt_in_range, expr_depth, stmt_depth_step, stmt_depth}
 use Rattle.sl_core.specs.Sound as sound
 use Rattle.c_tree.specs.declared.tree.CArg.TheVariants.{Value}
 use Rattle.c_tree.specs.declared.tree.CFile.{CFile}
 use Rattle.c_tree.specs.declared.tree.CFun.{CFun}
 use Rattle.c_tree.specs.declared.tree.CType.TheVariants.{Void}
 use Rattle.c_tree.specs.declared.tree.CStmt.{CStmt}
-use Rattle.c_tree.specs.declared.tree.CStmt.TheVariants.{Assign, Call, If, Return, Halt}
+use Rattle.c_tree.specs.declared.tree.CStmt.TheVariants.{Assign, Call, If, Loop, Break, Return, Get, Halt}
 use Rattle.c_tree.specs.declared.tree.CExpr.{CExpr}
 use Rattle.c_tree.specs.Scope.{Scope}
 use Rattle.c_tree.specs.Rules.{word}
 use Rattle.c_tree.proofs.Variants.{depth_of_const}
 use Rattle.c_helpers.specs.Functions.{constant}
 use Rattle.c_helpers.proofs.Keeping.{inside, TargetGood, StmtGood}
-use Rattle.c_helpers.proofs.Composing.{constant_good, assign_good, call_good, return_good, put_good, halt_good, if_good, if_else_good, deeper}
+use Rattle.c_helpers.proofs.Composing.{constant_good, assign_good, call_good, return_good, put_good, get_good, break_good, halt_good, loop_good, if_good, if_else_good, deeper}
 use Rattle.sl_frames.specs.Names.{variable_name, place_of, function_name, called_name}
 use Rattle.sl_frames.specs.Promise.{HasOneType}
 use Rattle.sl_frames.specs.Translated.{code_of, put_byte, print, with_value, text_step, text_of, put_code, else_of, joined, stmts_step, stmts_of, needed, greatest, needs_step, needs}
@@ -206,6 +206,18 @@ module _ (core : Core) (types : HasOneType core) (source : CoreFun) (file : CFil
       (block_keeps depth chosen fits_one.1 range_one.1 (all_within (map needs (map first chosen)) limit (omega arith)) (all_within (map stmt_depth (map first chosen)) depth (omega arith)))
       (block_keeps depth other fits_two.1 range_two.1 (all_within (map needs (map first other)) limit (omega arith)) (all_within (map stmt_depth (map first other)) depth (omega arith)))))
 
+  -- a loop
+  loop_keeps : (stmts : List Known)
+      → Claim (fits_step core source (stmt.Loop (map (fits core source) (map first stmts)))) (stmt_range_step (stmt.Loop (map stmt_in_range (map first stmts)))) (needs_step (stmt.Loop (map needs (map first stmts))))
+      (stmt_depth_step (stmt.Loop (map stmt_depth (map first stmts)))) (stmts_step core (stmt.Loop (map (stmts_of core) (map first stmts))))
+  loop_keeps stmts fit range need =
+      let depth = sound.greatest (map stmt_depth (map first stmts)) in
+      let block = joined (map (stmts_of core) (map first stmts)) in
+      alone (4 + (1 + depth)) (Loop block)
+      (deeper file before function (1 + (4 + depth)) (4 + (1 + depth)) (omega arith) (Loop block)
+      (loop_good file before function (4 + depth) block placed.outer
+      (block_keeps depth stmts fit range (all_within (map needs (map first stmts)) limit need) (all_within (map stmt_depth (map first stmts)) depth (omega arith)))))
+
   pub stmt_keeps : (s : CoreStmt) → fits core source s ≡ true → stmt_in_range s ≡ true → needs s ≤ limit → AreGood (4 + stmt_depth s) (stmts_of core s)
   stmt_keeps s = ind-CoreStmt Keeps (λ x y same. subst (λ z. Keeps (roll-CoreStmt z)) same (layer y)) s
     where
@@ -223,12 +235,20 @@ module _ (core : Core) (types : HasOneType core) (source : CoreFun) (file : CFil
           with_keeps (4 + (1 + expr_depth e)) e (Assign (place_of path)) (is_something there.0 (kind_of core source e) (test_passed (is_number_of there.0 (kind_of core source e)) there.0 there.2)) range need (omega arith)
           (λ fit_value. assign_good file before function (4 + (1 + expr_depth e)) (variable_name (root_of path.root)) (code_of e 0).value known fit_value.good (let below = fit_value.deep in omega arith) (omega arith)))
       layer (stmt.If test chosen other) = via (stmt.If test (map first chosen) (map first other)) (if_keeps test chosen other)
+      layer (stmt.Loop stmts) = via (stmt.Loop (map first stmts)) (loop_keeps stmts)
+      layer stmt.Break = via stmt.Break (λ fit range need. alone 5 Break (break_good file before function 5 (omega arith)))
       layer (stmt.Call target number) =
           via (stmt.Call target number)
           (λ fit range need.
           let both = and_parts (not (number == core.entry)) (is_some (option_and_then (λ (callee : CoreFun). if result_fits source target callee.result then Some callee else None) (slice_get core.functions number))) fit in
           alone 5 (Call (option_map place_of target) (called_name core number (slice_get core.functions number)) []) (calls target number (slice_get core.functions number) refl both.0 both.1))
       layer (stmt.Put e) = via (stmt.Put e) (λ fit range need. prints e fit range need (text_of e) refl)
+      layer (stmt.Get path) =
+          via (stmt.Get path)
+          (λ fit range need.
+          let there = some_then (type_of_place source path) (λ type. if type_has core type (negsuc 0) && type_has core type (pos 255) then Some type else None) fit in
+          let known = placed.variables (root_of path.root) (slice_get_within source.vars (root_of path.root) there.0 there.1) in
+          alone 5 (Get (place_of path)) (get_good file before function 5 (variable_name (root_of path.root)) known (omega arith)))
       layer (stmt.Halt kind file_number line) =
           via (stmt.Halt kind file_number line)
           (λ fit range need.

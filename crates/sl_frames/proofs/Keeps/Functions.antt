@@ -6,7 +6,7 @@ use Rattle.std.proofs.lemmas.List.{map-append, length-map, get_or-map}
 use Rattle.std.proofs.lemmas.List.Elements.{All-nil, All-cons, All-append, All-contains, All-from_recursion, All-weaker, Contains-append_left, Contains-append_right}
 use Rattle.sl_core.specs.declared.tree.Core.{Core}
 use Rattle.sl_core.specs.declared.tree.CoreFun.{CoreFun}
-use Rattle.sl_core.specs.Sound.{IsFunction, IsSound, stmt_depth}
+use Rattle.sl_core.specs.Sound.{IsFunction, IsSound, strays, stmt_depth}
 use Rattle.c_tree.specs.declared.tree.CFile.{CFile}
 use Rattle.c_tree.specs.declared.tree.CVar.{CVar}
 use Rattle.c_tree.specs.declared.tree.CFun.{CFun}
@@ -17,7 +17,7 @@ use Rattle.c_tree.specs.WellFormed.{IsVar, IsParam, IsProto}
 use Rattle.c_tree.specs.WellFormed as formed
 use Rattle.c_tree.specs.Mangled.{mangled}
 use Rattle.c_tree.specs.Rules.{word, var_names, fun_names, NamesClash, last_is, ends_function}
-use Rattle.c_tree.proofs.Variants.{depth_of_const, ends_of_return}
+use Rattle.c_tree.proofs.Variants.{depth_of_const, ends_of_return, strays_of_return}
 use Rattle.c_helpers.specs.Functions.{constant, sum_fits, difference_fits, product_fits, quotient_fits, remainder, print, helper_functions}
 use Rattle.c_helpers.proofs.Names.{names_differ, no_clash, name_is}
 use Rattle.c_helpers.proofs.Keeping.{AreAll, inside, CanCall, StmtGood, FunctionGood, formed_body}
@@ -33,6 +33,7 @@ use Rattle.sl_frames.proofs.Keeps.Tests.{by_test, of_all}
 use Rattle.sl_frames.proofs.Keeps.Scopes.{IsInt64, type_of_local}
 use Rattle.sl_frames.proofs.Keeps.Inside.{IsPlaced}
 use Rattle.sl_frames.proofs.Keeps.Blocks.{all_below, stmt_keeps}
+use Rattle.sl_frames.proofs.Keeps.Loops.{Stays, none_of, stmt_stays}
 use Rattle.sl_frames.proofs.Keeps.Lists.{all_each, each_in, only_one}
 use Rattle.sl_frames.proofs.Keeps.Needs.{body_few}
 
@@ -273,6 +274,7 @@ module _ (core : Core) (sound : IsSound core) (types : HasOneType core) (file : 
         spelled = temporary_is_name temporary (let small = temporaries_few in omega arith);
         type = type_of_local (vars_of source) file.globals (temporary_name temporary) (vars_int64 (length source.vars) limit variables_few temporaries_few) (temporary_in (length source.vars) limit variables_few temporaries_few temporary low);
       };
+      outer = refl;
       gives = refl;
       sum = can_helper sum_fits sum_in refl refl refl (name_is (codes "sl_sum_fits") refl refl);
       difference = can_helper difference_fits difference_in refl refl refl (name_is (codes "sl_difference_fits") refl refl);
@@ -297,10 +299,18 @@ module _ (core : Core) (sound : IsSound core) (types : HasOneType core) (file : 
         (stmt_keeps core types source file before function limit placed (get_or source.body k s) (fine.fit k s inside) (fine.in_range.body k s inside) within)))
         (return_good file before function 1024 (constant 0) refl (constant_good (inside file before function) 0 (omega arith)) (let is = depth_of_const true 0 in omega arith))
 
+    -- and each `break` stands in a loop
+    body_stays : All Stays function.body
+    body_stays =
+        of_ended Stays (flat_map (stmts_of core) source.body)
+        (of_flat Stays (stmts_of core) source.body (All-weaker (λ s. strays s ≡ false) (λ s. All Stays (stmts_of core s)) (stmt_stays core) source.body fine.loops))
+        (strays_of_return (Some (constant 0)))
+
     pub translated_good : FunctionGood file before function
     translated_good = record {
       names = vars_keep (length source.vars) limit variables_few temporaries_few;
       body = body_keeps;
+      loops = none_of (ended (flat_map (stmts_of core) source.body)) body_stays;
       ends = λ _. ended_ends (flat_map (stmts_of core) source.body);
     }
 

@@ -19,11 +19,12 @@ two = parameter (codes "a") ∷ parameter (codes "b") ∷ []
 abbrev pub one : List CVar
 one = parameter (codes "a") ∷ []
 
--- a C function for a core function knows its variables and so many temporaries, gives an `int64_t`, and can call the inline
--- functions and those for the core functions but the entry
+-- a C function for a core function knows its variables and so many temporaries, isn't inline, gives an `int64_t`, and can call the
+-- inline functions and those for the core functions but the entry
 pub record IsPlaced (core : Core) (source : CoreFun) (file : CFile) (before : List CFun) (function : CFun) (limit : ℕ) : Type 0 where
   pub variables : (number : ℕ) → number < length source.vars → IsKnown (inside file before function) (variable_name number)
   pub temporaries : (number : ℕ) → number < limit → IsKnown (inside file before function) (temporary_name number)
+  pub outer : function.inline ≡ false
   pub gives : function.result ≡ word
   pub sum : CanCall file before function (codes "sl_sum_fits") two word
   pub difference : CanCall file before function (codes "sl_difference_fits") two word

@@ -4,7 +4,7 @@ use Rattle.sl_core.specs.declared.tree.Core.{Core}
 use Rattle.sl_core.specs.declared.tree.CoreFun.{CoreFun}
 use Rattle.sl_core.specs.declared.tree.CoreExpr.{CoreExpr, CoreExpr-F, fold-roll-CoreExpr, map-CoreExpr, roll-CoreExpr}
 use Rattle.sl_core.specs.declared.tree.CoreStmt.{CoreStmt, CoreStmt-F, fold-roll-CoreStmt, map-CoreStmt, roll-CoreStmt}
-use Rattle.sl_core.specs.Sound.{Kind, kind_step, kind_of, fits_step, fits, expr_range_step, expr_in_range, stmt_range_step, stmt_in_range, expr_depth_step, expr_depth, stmt_depth_step, stmt_depth}
+use Rattle.sl_core.specs.Sound.{Kind, kind_step, kind_of, fits_step, fits, expr_range_step, expr_in_range, stmt_range_step, stmt_in_range, strays_step, strays, expr_depth_step, expr_depth, stmt_depth_step, stmt_depth}
 
 -- what an expression gives
 pub kind_layer : (core : Core) (function : CoreFun) (x : CoreExpr-F CoreExpr)
@@ -32,6 +32,11 @@ fits_layer core function x = fold-roll-CoreStmt Bool (fits_step core function) x
 pub stmt_range_layer : (x : CoreStmt-F CoreStmt) → stmt_in_range (roll-CoreStmt x) ≡ stmt_range_step (map-CoreStmt CoreStmt Bool stmt_in_range x)
 unfolding stmt_in_range
 stmt_range_layer x = fold-roll-CoreStmt Bool stmt_range_step x
+
+-- whether a `Break` stands in it outside its loops
+pub strays_layer : (x : CoreStmt-F CoreStmt) → strays (roll-CoreStmt x) ≡ strays_step (map-CoreStmt CoreStmt Bool strays x)
+unfolding strays
+strays_layer x = fold-roll-CoreStmt Bool strays_step x
 
 -- how deep it nests
 pub stmt_depth_layer : (x : CoreStmt-F CoreStmt) → stmt_depth (roll-CoreStmt x) ≡ stmt_depth_step (map-CoreStmt CoreStmt ℕ stmt_depth x)

@@ -58,8 +58,16 @@ stmt_few s = ind-CoreStmt IsFew (λ x y same. subst (λ z. IsFew (roll-CoreStmt 
         let c = deepest_below (2 ^ depth) (map needs (map first chosen)) (block_few depth chosen (all_below depth (map stmt_depth (map first chosen)) (omega arith))) in
         let d = deepest_below (2 ^ depth) (map needs (map first other)) (block_few depth other (all_below depth (map stmt_depth (map first other)) (omega arith))) in
         omega arith)
+    layer (stmt.Loop stmts) =
+        via (stmt.Loop (map first stmts))
+        (let depth = sound.greatest (map stmt_depth (map first stmts)) in
+        let more = power depth (1 + depth) (omega arith) in
+        let few_below = deepest_below (2 ^ depth) (map needs (map first stmts)) (block_few depth stmts (all_below depth (map stmt_depth (map first stmts)) (omega arith))) in
+        omega arith)
+    layer stmt.Break = via stmt.Break (omega arith)
     layer (stmt.Call target number) = via (stmt.Call target number) (omega arith)
     layer (stmt.Put e) = via (stmt.Put e) (few e)
+    layer (stmt.Get path) = via (stmt.Get path) (omega arith)
     layer (stmt.Halt kind file line) = via (stmt.Halt kind file line) (omega arith)
     layer (stmt.Return e) = via (stmt.Return e) (few e)
 

@@ -12,7 +12,7 @@ use Rattle.sl_core.specs.Meaning as means
 use Rattle.c_tree.specs.declared.tree.CStmt.{CStmt}
 use Rattle.c_tree.specs.Memory as c
 use Rattle.c_tree.specs.Memory.{Tree}
-use Rattle.c_tree.specs.Meaning.{Next, Returned, Flow, is_int64, then_on, meaning, block}
+use Rattle.c_tree.specs.Meaning.{Next, Broke, Returned, Flow, is_int64, then_on, meaning, block}
 use Rattle.sl_frames.specs.Translated.{Code}
 use Rattle.sl_frames.proofs.Meaning.Frames.{Beside, memory_with, Where, Has, block_append}
 use Rattle.sl_frames.proofs.Meaning.Places.{same_below}
@@ -42,16 +42,22 @@ pub record ResultLike (value : Value) (given : Option ℤ) : Type 0 where
   pub given_is : given ≡ Some number
   pub fits : is_int64 number ≡ true
 
--- both are left by the next statement, or return the same number
+-- both are left by the next statement or by a break, or return the same number
 abbrev pub FlowLike : means.Flow → Flow → Type 0
 FlowLike means.Next Next = Unit {0}
+FlowLike means.Broke Broke = Unit {0}
 FlowLike (means.Returned value) (Returned given) = ResultLike value given
+FlowLike means.Next Broke = ⊥
 FlowLike means.Next (Returned given) = ⊥
+FlowLike means.Broke Next = ⊥
+FlowLike means.Broke (Returned given) = ⊥
 FlowLike (means.Returned value) Next = ⊥
+FlowLike (means.Returned value) Broke = ⊥
 
 -- nothing comes behind the last statement
 pub then_next : (x : Step c.Memory Flow) → step_then x (then_on (pure Next)) ≡ x
 then_next (Went Next t memory) = refl
+then_next (Went Broke t memory) = refl
 then_next (Went (Returned given) t memory) = refl
 then_next (Over e t) = refl
 

@@ -11,7 +11,7 @@ use Rattle.c_tree.specs.declared.tree.CStmt.{CStmt}
 use Rattle.c_tree.specs.declared.tree.CStmt.TheVariants.{Assign, Call}
 use Rattle.c_tree.specs.Scope.{Scope, number_named}
 use Rattle.c_tree.specs.Memory.{FrameAt, Pointer, Tree, Number, Frame, Memory}
-use Rattle.c_tree.specs.Meaning.{Next, Returned, Flow, Callees, Word, place_is_signed, located, read_number, write_number, evaluate, then_on, meaning, block}
+use Rattle.c_tree.specs.Meaning.{Next, Broke, Returned, Flow, Callees, Word, place_is_signed, located, read_number, write_number, evaluate, then_on, meaning, block}
 use Rattle.c_tree.proofs.Running.{read_runs, assign_runs, call_to_runs}
 
 -- what is beside the variables of the last frame
@@ -62,6 +62,7 @@ module _ (scope : Scope) (call : Callees) where
       → ((t : Trace) (memory : Memory) → block scope (xs ++ ys) call t memory ≡ step_then (block scope xs call t memory) (then_on (block scope ys call)))
       → step_then x (then_on (block scope (xs ++ ys) call)) ≡ step_then (step_then x (then_on (block scope xs call))) (then_on (block scope ys call))
   append_step xs ys (Went Next t memory) h = h t memory
+  append_step xs ys (Went Broke t memory) h = refl
   append_step xs ys (Went (Returned value) t memory) h = refl
   append_step xs ys (Over e t) h = refl
 

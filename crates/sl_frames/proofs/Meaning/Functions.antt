@@ -22,7 +22,7 @@ use Rattle.c_tree.specs.Memory as c
 use Rattle.c_tree.specs.Memory.{Tree, Unwritten}
 use Rattle.c_tree.specs.Scope.{scope_of}
 use Rattle.c_tree.specs.Rules.{last_is, ends_function}
-use Rattle.c_tree.specs.Meaning.{Next, Returned, Flow, then_on, block, given, begin, leave, in_frame, body, numbered_call, callees, with_some, functions, exit_value}
+use Rattle.c_tree.specs.Meaning.{Next, Broke, Returned, Flow, then_on, block, given, begin, leave, in_frame, body, numbered_call, callees, with_some, functions, exit_value}
 use Rattle.c_helpers.specs.Functions.{helper_functions}
 use Rattle.sl_frames.specs.Names.{variable_name, temporary_name, function_name}
 use Rattle.sl_frames.specs.Promise.{HasOneType}
@@ -70,13 +70,18 @@ module _ (w : Where) (b : Beneath) (variables temporaries : ℕ) where
   stays_in_frame s r o (Over e t) (Went g u r') h = h
   stays_in_frame s r o (Went v t s') (Over f u) h = absurd h
 
-  -- what a function gives whose body was left so. Where the core's body has no end, the core is stuck
+  -- what a function gives whose body was left so. Where the core's body comes to no return, the core is stuck
   ends_alike : (x : Step source.Memory means.Flow) (y : Step c.Memory Flow) (go : Flow → Act c.Memory (Option ℤ)) → ((g : Option ℤ) (u : Trace) (r : c.Memory) → go (Returned g) u r ≡ Went g u r)
       → AlikeIn w b variables temporaries FlowLike x y → AlikeIn w b variables temporaries ResultLike (step_then x means.given) (step_then y go)
   ends_alike (Went means.Next t s) (Went Next u r) go gives h = excused_alike IsStuck AnyCopies (InFrame b w.beside variables temporaries) ResultLike (Stuck (source.running s.frames)) t (go Next u r) tt
+  ends_alike (Went means.Broke t s) (Went Broke u r) go gives h = excused_alike IsStuck AnyCopies (InFrame b w.beside variables temporaries) ResultLike (Stuck (source.running s.frames)) t (go Broke u r) tt
   ends_alike (Went (means.Returned v) t s) (Went (Returned g) u r) go gives h = alike_of w b variables temporaries ResultLike (Went v t s) (Went v t s) (Went g u r) (go (Returned g) u r) refl (gives g u r) h
+  ends_alike (Went means.Next t s) (Went Broke u r) go gives h = absurd h.0
   ends_alike (Went means.Next t s) (Went (Returned g) u r) go gives h = absurd h.0
+  ends_alike (Went means.Broke t s) (Went Next u r) go gives h = absurd h.0
+  ends_alike (Went means.Broke t s) (Went (Returned g) u r) go gives h = absurd h.0
   ends_alike (Went (means.Returned v) t s) (Went Next u r) go gives h = absurd h.0
+  ends_alike (Went (means.Returned v) t s) (Went Broke u r) go gives h = absurd h.0
   ends_alike (Over e t) (Over f u) go gives h = h
   ends_alike (Over e t) (Went flow u r) go gives h = excused_alike IsStuck AnyCopies (InFrame b w.beside variables temporaries) ResultLike e t (go flow u r) h
   ends_alike (Went flow t s) (Over f u) go gives h = absurd h

@@ -1,16 +1,16 @@
 -- The C of each statement goes alike with the statement.
 use Rattle.std.proofs.Common.{◌≡◌, ℕ, ◌<◌, ◌≤◌, List, [], ◌∷◌, ◌++◌, Bool, true, not, ◌&&◌, ◌==◌, Option, Some, None, refl, sym, ap, ◌∙◌, subst, inr, arith, map, max, length, is_some, if◌then◌else◌}
-use Rattle.std.specs.Prelude.{ℤ, nat_le, slice_get, slice_set, option_map}
+use Rattle.std.specs.Prelude.{ℤ, pos, negsuc, nat_le, slice_get, slice_set, option_map}
 use Rattle.std.specs.Fmt.{signed_decimal}
 use Rattle.std.specs.List.{list_all, flat_map}
 use Rattle.std.specs.Option.{option_and_then}
 use Rattle.std.proofs.lemmas.List.{append_assoc, append-nil}
 use Rattle.std.proofs.lemmas.Bool.{ltb-true, le-leb}
 use Rattle.std.proofs.lemmas.Option.{slice_get_within}
-use Rattle.sl_run.specs.Run.{Event, Puts, Trace, Step, Went, Over, Act, pure, over, step_then, ◌>>=◌, ◌>>◌, choose, put_all}
+use Rattle.sl_run.specs.Run.{Event, Puts, Asks, Trace, Step, Went, Over, Act, pure, over, step_then, ◌>>=◌, ◌>>◌, choose, put_all, first_of, rest_of, get, loop}
 use Rattle.sl_run.specs.Run as run
 use Rattle.sl_run.specs.Alike.{AnyCopies}
-use Rattle.sl_run.proofs.Alike.{bind_follows, choose_follows, pure_follows}
+use Rattle.sl_run.proofs.Alike.{BothGive, bind_follows, choose_follows, pure_follows, loop_follows}
 use Rattle.sl_run.proofs.Puts.{put_all_is}
 use Rattle.sl_run.proofs.Then.{bind_assoc}
 use Rattle.sl_core.specs.declared.tree.Core.{Core}
@@ -23,15 +23,15 @@ use Rattle.sl_core.specs.Memory as source
 use Rattle.sl_core.specs.Memory.{Value, Number, Bytes}
 use Rattle.sl_core.specs.Meaning as means
 use Rattle.sl_core.specs.Meaning.{root_of, store, with_number, is_true, printed_form, evaluate}
-use Rattle.sl_core.specs.Sound.{is_number, is_number_of, type_of_place, kind_of, result_fits, call_fits, fits_step, fits, expr_in_range, stmt_range_step, stmt_in_range}
+use Rattle.sl_core.specs.Sound.{type_has, is_number, is_number_of, type_of_place, kind_of, result_fits, call_fits, fits_step, fits, expr_in_range, stmt_range_step, stmt_in_range}
 use Rattle.sl_core.proofs.Layers as source_layers
 use Rattle.c_tree.specs.declared.tree.CExpr.{CExpr}
 use Rattle.c_tree.specs.declared.tree.CStmt.{CStmt}
-use Rattle.c_tree.specs.declared.tree.CStmt.TheVariants.{Assign, Call, If, Return}
+use Rattle.c_tree.specs.declared.tree.CStmt.TheVariants.{Assign, Call, If, Loop, Break, Return, Get}
 use Rattle.c_tree.specs.Memory as c
 use Rattle.c_tree.specs.Memory.{Tree}
-use Rattle.c_tree.specs.Meaning.{Next, Returned, Flow, is_zero, then_on, store_result, evaluate as c_evaluate, meaning, block}
-use Rattle.c_tree.proofs.Running.{const_runs, call_runs, call_to_runs, if_runs, if_else_runs, return_runs, put_runs, halt_runs}
+use Rattle.c_tree.specs.Meaning.{Next, Broke, Returned, Flow, is_zero, then_on, after_round, gotten, write_number, store_result, evaluate as c_evaluate, meaning, block}
+use Rattle.c_tree.proofs.Running.{const_runs, call_runs, call_to_runs, if_runs, if_else_runs, loop_runs, break_runs, return_runs, put_runs, get_runs, halt_runs}
 use Rattle.sl_frames.specs.Translated.{greatest, code_of, put_byte, print, with_value, text_of, put_code, else_of, joined, stmts_step, stmts_of, needs_step, needs}
 use Rattle.sl_frames.specs.Names.{variable_name, place_of, function_name, called_name}
 use Rattle.sl_frames.specs.Promise.{HasOneType}
@@ -42,7 +42,7 @@ use Rattle.sl_frames.proofs.Meaning.Related.{Beneath, source_with, like_stored}
 use Rattle.std.proofs.lemmas.Bool.{and_parts}
 use Rattle.sl_frames.proofs.Keeps.Layers.{fits_layer, stmt_range_layer}
 use Rattle.sl_frames.proofs.Keeps.Tests.{place_is}
-use Rattle.sl_frames.proofs.Meaning.Kinds.{IsNumeric, of_type, first_numeric, some_if}
+use Rattle.sl_frames.proofs.Meaning.Kinds.{IsNumeric, of_type, first_numeric, gotten_fits, gotten_same, some_if}
 use Rattle.sl_frames.proofs.Meaning.Expressions.{Good}
 use Rattle.sl_frames.proofs.Meaning.Evaluating.{evaluated}
 use Rattle.sl_frames.proofs.Meaning.Following.{IsStuck, InFrame, ResultLike, FlowLike, FollowsIn, Uses, alike_of, from_frames, in_frame, then_next, value_follows}
@@ -83,9 +83,65 @@ module _ (w : Where) (b : Beneath) (variables temporaries : ℕ) (ready : Ready 
   -- what comes behind a statement
   then_follows : (flow : means.Flow) (flow' : Flow) (go : Act source.Memory means.Flow) (go' : Act c.Memory Flow) → FlowLike flow flow' → FollowsIn w b variables temporaries FlowLike go go' → FollowsIn w b variables temporaries FlowLike (means.then_on go flow) (then_on go' flow')
   then_follows means.Next Next go go' e h = h
+  then_follows means.Broke Broke go go' e h = pure_follows IsStuck AnyCopies (InFrame b w.beside variables temporaries) FlowLike means.Broke Broke e
   then_follows (means.Returned value) (Returned given) go go' e h = pure_follows IsStuck AnyCopies (InFrame b w.beside variables temporaries) FlowLike (means.Returned value) (Returned given) e
+  then_follows means.Next Broke go go' e h = absurd e
   then_follows means.Next (Returned given) go go' e h = absurd e
+  then_follows means.Broke Next go go' e h = absurd e
+  then_follows means.Broke (Returned given) go go' e h = absurd e
   then_follows (means.Returned value) Next go go' e h = absurd e
+  then_follows (means.Returned value) Broke go go' e h = absurd e
+
+  -- what rounds give that were left so
+  rounds_give : (flow : means.Flow) (flow' : Flow) → FlowLike flow flow' → BothGive FlowLike (means.after_round flow) (after_round flow')
+  rounds_give means.Next Next e = tt
+  rounds_give means.Broke Broke e = tt
+  rounds_give (means.Returned value) (Returned given) e = e
+  rounds_give means.Next Broke e = absurd e
+  rounds_give means.Next (Returned given) e = absurd e
+  rounds_give means.Broke Next e = absurd e
+  rounds_give means.Broke (Returned given) e = absurd e
+  rounds_give (means.Returned value) Next e = absurd e
+  rounds_give (means.Returned value) Broke e = absurd e
+
+  -- a loop of statements that go alike
+  rounds_follow : (a : Act source.Memory means.Flow) (stmts : List CStmt) → FollowsIn w b variables temporaries FlowLike a (block w.scope stmts w.call)
+      → FollowsIn w b variables temporaries FlowLike (loop (a >>= (λ flow. pure (means.after_round flow)))) (block w.scope (Loop stmts ∷ []) w.call)
+  rounds_follow a stmts h t u s r same o =
+      let round = a >>= (λ flow. pure (means.after_round flow)) in
+      let round' = block w.scope stmts w.call >>= (λ flow. pure (after_round flow)) in
+      alike_of w b variables temporaries FlowLike (loop round t s) _ (loop round' u r) _ refl
+      (ap (λ x. step_then x (then_on (pure Next))) (loop_runs w.scope w.call stmts u r) ∙ then_next (loop round' u r))
+      (loop_follows IsStuck AnyCopies (InFrame b w.beside variables temporaries) FlowLike round round'
+      (bind_follows IsStuck AnyCopies (InFrame b w.beside variables temporaries) FlowLike (BothGive FlowLike) a (block w.scope stmts w.call) (λ flow. pure (means.after_round flow)) (λ flow. pure (after_round flow)) h
+      (λ flow flow' e. pure_follows IsStuck AnyCopies (InFrame b w.beside variables temporaries) (BothGive FlowLike) (means.after_round flow) (after_round flow') (rounds_give flow flow' e)))
+      t u s r same o)
+
+  break_follows : FollowsIn w b variables temporaries FlowLike (pure means.Broke) (block w.scope (Break ∷ []) w.call)
+  break_follows t u s r same o =
+      alike_of w b variables temporaries FlowLike (Went means.Broke t s) _ (Went Broke u r) _ refl (ap (λ x. step_then x (then_on (pure Next))) (break_runs w.scope w.call u r)) (tt, same, o)
+
+  -- the next byte of the input, which is stored
+  get_follows : (path : CorePath) → root_of path.root < variables
+      → FollowsIn w b variables temporaries FlowLike (get >>= (λ byte. store path (Number (means.gotten byte))) >> pure means.Next) (block w.scope (Get (place_of path) ∷ []) w.call)
+  get_follows path there =
+      from_frames w b variables temporaries FlowLike (get >>= (λ byte. store path (Number (means.gotten byte))) >> pure means.Next) (block w.scope (Get (place_of path) ∷ []) w.call)
+      (λ t u vars others same like.
+      let root : ℕ = root_of path.root in
+      let number : ℤ = means.gotten (first_of t.rest) in
+      let given : ℤ = gotten (first_of u.rest) in
+      let asked : Trace = record t { events = t.events ++ Asks ∷ []; rest = rest_of t.rest } in
+      let asked' : Trace = record u { events = u.events ++ Asks ∷ []; rest = rest_of u.rest } in
+      let same_number : given ≡ number = ap (λ rest. gotten (first_of rest)) (sym same.rest) ∙ gotten_same (first_of t.rest) in
+      alike_of w b variables temporaries FlowLike
+      (Went means.Next asked (source_with b (slice_set vars root (Some (Number number))))) _
+      (Went Next asked' (memory_with w.beside (slice_set others root (c.Number number)))) _
+      refl
+      (ap (λ x. step_then x (then_on (pure Next))) (get_runs w.scope w.call (place_of path) u (memory_with w.beside others))
+      ∙ ap (λ (x : Step c.Memory c.Pointer). step_then (step_then (step_then x (λ pointer. get >>= (λ byte. write_number pointer (gotten byte)))) (λ _. pure Next)) (then_on (pure Next))) (located_here w (variable_name root) root (ready.variable root there) others u)
+      ∙ ap (λ (x : Step c.Memory (Unit {0})). step_then (step_then x (λ _. pure Next)) (then_on (pure Next))) (write_here w.beside others root given asked')
+      ∙ ap (λ (number : ℤ). Went Next asked' (memory_with w.beside (slice_set others root (c.Number number)))) same_number)
+      (tt, record { events = ap (λ es. es ++ Asks ∷ []) same.events; rest = ap rest_of same.rest; left = same.left; made = tt }, in_frame w b variables temporaries _ _ (like_stored variables temporaries vars others like root there number (gotten_fits (first_of t.rest)))))
 
   store_uses : (path : CorePath) (e : CoreExpr) → root_of path.root < variables → Uses w b variables temporaries FlowLike (Assign (place_of path) (code_of e 0).value) (λ value. store path value >> pure means.Next) (code_of e 0)
   store_uses path e there number vars others like fits value t u same =
@@ -207,8 +263,8 @@ module _ (w : Where) (b : Beneath) (variables temporaries : ℕ) (ready : Ready 
     abbrev Known : Type 0
     Known = (s : CoreStmt) × Goes s
 
-    abbrev first_of : Known → CoreStmt
-    first_of known = known.0
+    abbrev stmt_of : Known → CoreStmt
+    stmt_of known = known.0
 
     via : (x : CoreStmt-F CoreStmt)
         → GoesAs (means.stmt_step core (map-CoreStmt CoreStmt means.Meaning (means.meaning core) x)) (stmts_step core (map-CoreStmt CoreStmt (List CStmt) (stmts_of core) x)) (stmt_range_step (map-CoreStmt CoreStmt Bool stmt_in_range x)) (fits_step core function (map-CoreStmt CoreStmt Bool (fits core function) x)) (needs_step (map-CoreStmt CoreStmt ℕ needs x))
@@ -233,34 +289,34 @@ module _ (w : Where) (b : Beneath) (variables temporaries : ℕ) (ready : Ready 
         (bind_follows IsStuck AnyCopies (InFrame b w.beside variables temporaries) FlowLike FlowLike (means.meaning core s call) (block w.scope (stmts_of core s) w.call) (means.then_on rest) (then_on (block w.scope stmts w.call)) h
         (λ flow flow' e. then_follows flow flow' rest (block w.scope stmts w.call) e k) t u q r same o)
 
-    all_go : (ks : List Known) → EachTrue (map stmt_in_range (map first_of ks)) → EachTrue (map (fits core function) (map first_of ks)) → EachAtMost temporaries (map needs (map first_of ks))
-        → FollowsIn w b variables temporaries FlowLike (means.in_order (map (means.meaning core) (map first_of ks)) call) (block w.scope (joined (map (stmts_of core) (map first_of ks))) w.call)
+    all_go : (ks : List Known) → EachTrue (map stmt_in_range (map stmt_of ks)) → EachTrue (map (fits core function) (map stmt_of ks)) → EachAtMost temporaries (map needs (map stmt_of ks))
+        → FollowsIn w b variables temporaries FlowLike (means.in_order (map (means.meaning core) (map stmt_of ks)) call) (block w.scope (joined (map (stmts_of core) (map stmt_of ks))) w.call)
     all_go [] in_range fit room = pure_follows IsStuck AnyCopies (InFrame b w.beside variables temporaries) FlowLike means.Next Next tt
-    all_go (k ∷ ks) in_range fit room = one_more k.0 (means.in_order (map (means.meaning core) (map first_of ks)) call) (joined (map (stmts_of core) (map first_of ks))) (k.1 in_range.0 fit.0 room.0) (all_go ks in_range.1 fit.1 room.1)
+    all_go (k ∷ ks) in_range fit room = one_more k.0 (means.in_order (map (means.meaning core) (map stmt_of ks)) call) (joined (map (stmts_of core) (map stmt_of ks))) (k.1 in_range.0 fit.0 room.0) (all_go ks in_range.1 fit.1 room.1)
 
     abbrev all_fit : List Known → Bool
-    all_fit ks = list_all (λ fits. fits) (map (fits core function) (map first_of ks))
+    all_fit ks = list_all (λ fits. fits) (map (fits core function) (map stmt_of ks))
 
     abbrev all_in_range : List Known → Bool
-    all_in_range ks = list_all (λ fits. fits) (map stmt_in_range (map first_of ks))
+    all_in_range ks = list_all (λ fits. fits) (map stmt_in_range (map stmt_of ks))
 
     abbrev need_of : List Known → ℕ
-    need_of ks = greatest (map needs (map first_of ks))
+    need_of ks = greatest (map needs (map stmt_of ks))
 
     room_of : (first second third : ℕ) → max first (max second third) ≤ temporaries → (first ≤ temporaries) × (second ≤ temporaries) × (third ≤ temporaries)
     room_of first second third h = (omega arith, omega arith, omega arith)
 
     if_goes : (test : CoreExpr) (chosen other : List Known) → is_number (kind_of core function test) ≡ true → (code_of test 0).free ≤ temporaries
-        → FollowsIn w b variables temporaries FlowLike (means.in_order (map (means.meaning core) (map first_of chosen)) call) (block w.scope (joined (map (stmts_of core) (map first_of chosen))) w.call)
-        → FollowsIn w b variables temporaries FlowLike (means.in_order (map (means.meaning core) (map first_of other)) call) (block w.scope (joined (map (stmts_of core) (map first_of other))) w.call)
-        → FollowsIn w b variables temporaries FlowLike (means.stmt_step core (stmt.If test (map (means.meaning core) (map first_of chosen)) (map (means.meaning core) (map first_of other))) call) (block w.scope (stmts_step core (stmt.If test (map (stmts_of core) (map first_of chosen)) (map (stmts_of core) (map first_of other)))) w.call)
+        → FollowsIn w b variables temporaries FlowLike (means.in_order (map (means.meaning core) (map stmt_of chosen)) call) (block w.scope (joined (map (stmts_of core) (map stmt_of chosen))) w.call)
+        → FollowsIn w b variables temporaries FlowLike (means.in_order (map (means.meaning core) (map stmt_of other)) call) (block w.scope (joined (map (stmts_of core) (map stmt_of other))) w.call)
+        → FollowsIn w b variables temporaries FlowLike (means.stmt_step core (stmt.If test (map (means.meaning core) (map stmt_of chosen)) (map (means.meaning core) (map stmt_of other))) call) (block w.scope (stmts_step core (stmt.If test (map (stmts_of core) (map stmt_of chosen)) (map (stmts_of core) (map stmt_of other)))) w.call)
     if_goes test chosen other numeric room h k =
-        uses_number FlowLike test (λ value. with_number value (λ number. choose (is_true number) (means.in_order (map (means.meaning core) (map first_of chosen)) call) (means.in_order (map (means.meaning core) (map first_of other)) call)))
-        (λ value. If value (joined (map (stmts_of core) (map first_of chosen))) (else_of (joined (map (stmts_of core) (map first_of other)))))
+        uses_number FlowLike test (λ value. with_number value (λ number. choose (is_true number) (means.in_order (map (means.meaning core) (map stmt_of chosen)) call) (means.in_order (map (means.meaning core) (map stmt_of other)) call)))
+        (λ value. If value (joined (map (stmts_of core) (map stmt_of chosen))) (else_of (joined (map (stmts_of core) (map stmt_of other)))))
         (first_numeric (kind_of core function test) (kind_of core function test) numeric) room
         (if_uses test _ _ _ _ h k)
 
-    layer : (y : CoreStmt-F Known) → Goes (roll-CoreStmt (map-CoreStmt Known CoreStmt first_of y))
+    layer : (y : CoreStmt-F Known) → Goes (roll-CoreStmt (map-CoreStmt Known CoreStmt stmt_of y))
     layer (stmt.Store path e) =
         via (stmt.Store path e) (λ in_range fit room.
         let there = some_if (λ type. is_number_of type (kind_of core function e)) (type_of_place function path) fit in
@@ -268,17 +324,26 @@ module _ (w : Where) (b : Beneath) (variables temporaries : ℕ) (ready : Ready 
         (uses_number FlowLike e (λ value. store path value >> pure means.Next) (Assign (place_of path)) (of_type there.0 (kind_of core function e) there.2) room
         (store_uses path e (subst (λ (count : ℕ). root_of path.root < count) many (slice_get_within function.vars (root_of path.root) there.0 there.1)))))
     layer (stmt.If test chosen other) =
-        via (stmt.If test (map first_of chosen) (map first_of other)) (λ in_range fit room.
+        via (stmt.If test (map stmt_of chosen) (map stmt_of other)) (λ in_range fit room.
         let tests = and_parts (is_number (kind_of core function test) && all_fit chosen) (all_fit other) fit in
         let first = and_parts (is_number (kind_of core function test)) (all_fit chosen) tests.0 in
         let ranges = and_parts (expr_in_range test && all_in_range chosen) (all_in_range other) in_range in
         let first_range = and_parts (expr_in_range test) (all_in_range chosen) ranges.0 in
         let parts = room_of ((code_of test 0).free) (need_of chosen) (need_of other) room in
         if_goes test chosen other first.0 parts.0
-        (all_go chosen (each_true (map stmt_in_range (map first_of chosen)) first_range.1) (each_true (map (fits core function) (map first_of chosen)) first.1) (each_at_most temporaries (map needs (map first_of chosen)) parts.1))
-        (all_go other (each_true (map stmt_in_range (map first_of other)) ranges.1) (each_true (map (fits core function) (map first_of other)) tests.1) (each_at_most temporaries (map needs (map first_of other)) parts.2)))
+        (all_go chosen (each_true (map stmt_in_range (map stmt_of chosen)) first_range.1) (each_true (map (fits core function) (map stmt_of chosen)) first.1) (each_at_most temporaries (map needs (map stmt_of chosen)) parts.1))
+        (all_go other (each_true (map stmt_in_range (map stmt_of other)) ranges.1) (each_true (map (fits core function) (map stmt_of other)) tests.1) (each_at_most temporaries (map needs (map stmt_of other)) parts.2)))
+    layer (stmt.Loop stmts) =
+        via (stmt.Loop (map stmt_of stmts)) (λ in_range fit room.
+        rounds_follow (means.in_order (map (means.meaning core) (map stmt_of stmts)) call) (joined (map (stmts_of core) (map stmt_of stmts)))
+        (all_go stmts (each_true (map stmt_in_range (map stmt_of stmts)) in_range) (each_true (map (fits core function) (map stmt_of stmts)) fit) (each_at_most temporaries (map needs (map stmt_of stmts)) room)))
+    layer stmt.Break = via stmt.Break (λ in_range fit room. break_follows)
     layer (stmt.Call target number) = via (stmt.Call target number) (λ in_range fit room. call_follows target number fit)
     layer (stmt.Put e) = via (stmt.Put e) (λ in_range fit room. put_by e (printed_as core function e in_range fit) room)
+    layer (stmt.Get path) =
+        via (stmt.Get path) (λ in_range fit room.
+        let there = some_if (λ type. type_has core type (negsuc 0) && type_has core type (pos 255)) (type_of_place function path) fit in
+        get_follows path (subst (λ (count : ℕ). root_of path.root < count) many (slice_get_within function.vars (root_of path.root) there.0 there.1)))
     layer (stmt.Halt kind file line) = via (stmt.Halt kind file line) (λ in_range fit room t u s r same o.
         alike_of w b variables temporaries FlowLike (Over (run.Halt kind file line) t) _ (Over (run.Halt kind file line) u) _ refl
         (ap (λ x. step_then x (then_on (pure Next))) (halt_runs w.scope w.call kind file line u r)) (inr (refl, same)))
