@@ -1,6 +1,6 @@
 -- Kinds, fit, ranges and depth of the expressions and statements of a core, one variant at a time.
-use Rattle.std.proofs.Common.{◌≡◌, ℕ, ◌+◌, ℤ, List, Bool, true, ◌&&◌, nat_lt, max, map, is_some, Option, Some, None, option_and_then, if◌then◌else◌, sym, ap, ◌∙◌}
-use Rattle.std.specs.List.{list_all}
+use Rattle.std.proofs.Common.{◌≡◌, ℕ, ◌+◌, ℤ, List, Bool, true, false, ◌&&◌, ◌||◌, nat_lt, max, map, is_some, Option, Some, None, option_and_then, if◌then◌else◌, sym, ap, ◌∙◌}
+use Rattle.std.specs.List.{list_all, list_any}
 use Rattle.sl_num.specs.declared.arithmetic.Op.{Op}
 use Rattle.sl_num.specs.declared.comparing.Comparison.{Comparison}
 use Rattle.sl_core.specs.declared.tree.Core.{Core}
@@ -12,7 +12,7 @@ use Rattle.sl_core.specs.declared.tree.CoreExpr.TheVariants as expr
 use Rattle.sl_core.specs.declared.tree.CoreStmt.{CoreStmt, CoreStmt-F, fold-roll-CoreStmt, map-CoreStmt, roll-CoreStmt}
 use Rattle.sl_core.specs.declared.tree.CoreStmt.TheOpen as stmt_layer
 use Rattle.sl_core.specs.declared.tree.CoreStmt.TheVariants as stmt
-use Rattle.sl_core.specs.Sound.{Kind, kind_step, kind_of, fits_step, fits, expr_depth_step, expr_depth, stmt_depth_step, stmt_depth, greatest, type_of_place, is_number_of, is_number, call_fits, expr_range_step, expr_in_range, stmt_range_step, stmt_in_range, is_source_place}
+use Rattle.sl_core.specs.Sound.{Kind, kind_step, kind_of, fits_step, fits, expr_depth_step, expr_depth, stmt_depth_step, stmt_depth, greatest, type_of_place, is_number_of, is_number, call_fits, holds_bytes, strays_step, strays, expr_range_step, expr_in_range, stmt_range_step, stmt_in_range, is_source_place}
 
 module _ (core : Core) (function : CoreFun) where
   pub kind_layer : (x : CoreExpr-F CoreExpr) → kind_of core function (roll-CoreExpr x) ≡ kind_step core function (map-CoreExpr CoreExpr (Option Kind) (kind_of core function) x)
@@ -43,6 +43,15 @@ module _ (core : Core) (function : CoreFun) where
 
   pub if_fits : (test : CoreExpr) (chosen other : List CoreStmt) → fits core function (stmt.If test chosen other) ≡ (is_number (kind_of core function test) && list_all (λ so. so) (map (fits core function) chosen) && list_all (λ so. so) (map (fits core function) other))
   if_fits test chosen other = ap (fits core function) (sym (stmt.rolls-If test chosen other)) ∙ fits_layer (stmt_layer.If test chosen other)
+
+  pub loop_fits : (stmts : List CoreStmt) → fits core function (stmt.Loop stmts) ≡ list_all (λ so. so) (map (fits core function) stmts)
+  loop_fits stmts = ap (fits core function) (sym (stmt.rolls-Loop stmts)) ∙ fits_layer (stmt_layer.Loop stmts)
+
+  pub break_fits : fits core function stmt.Break ≡ true
+  break_fits = ap (fits core function) (sym stmt.rolls-Break) ∙ fits_layer stmt_layer.Break
+
+  pub get_fits : (path : CorePath) → fits core function (stmt.Get path) ≡ holds_bytes core function path
+  get_fits path = ap (fits core function) (sym (stmt.rolls-Get path)) ∙ fits_layer (stmt_layer.Get path)
 
   pub call_fits_is : (target : Option CorePath) (number : ℕ) → fits core function (stmt.Call target number) ≡ call_fits core function target number
   call_fits_is target number = ap (fits core function) (sym (stmt.rolls-Call target number)) ∙ fits_layer (stmt_layer.Call target number)
@@ -85,6 +94,15 @@ store_depth path e = ap stmt_depth (sym (stmt.rolls-Store path e)) ∙ stmt_dept
 pub if_depth : (test : CoreExpr) (chosen other : List CoreStmt) → stmt_depth (stmt.If test chosen other) ≡ 1 + max (expr_depth test) (max (greatest (map stmt_depth chosen)) (greatest (map stmt_depth other)))
 if_depth test chosen other = ap stmt_depth (sym (stmt.rolls-If test chosen other)) ∙ stmt_depth_layer (stmt_layer.If test chosen other)
 
+pub loop_depth : (stmts : List CoreStmt) → stmt_depth (stmt.Loop stmts) ≡ 1 + greatest (map stmt_depth stmts)
+loop_depth stmts = ap stmt_depth (sym (stmt.rolls-Loop stmts)) ∙ stmt_depth_layer (stmt_layer.Loop stmts)
+
+pub break_depth : stmt_depth stmt.Break ≡ 1
+break_depth = ap stmt_depth (sym stmt.rolls-Break) ∙ stmt_depth_layer stmt_layer.Break
+
+pub get_depth : (path : CorePath) → stmt_depth (stmt.Get path) ≡ 1
+get_depth path = ap stmt_depth (sym (stmt.rolls-Get path)) ∙ stmt_depth_layer (stmt_layer.Get path)
+
 pub call_depth : (target : Option CorePath) (number : ℕ) → stmt_depth (stmt.Call target number) ≡ 1
 call_depth target number = ap stmt_depth (sym (stmt.rolls-Call target number)) ∙ stmt_depth_layer (stmt_layer.Call target number)
 
@@ -126,6 +144,15 @@ store_range path e = ap stmt_in_range (sym (stmt.rolls-Store path e)) ∙ stmt_r
 pub if_range : (test : CoreExpr) (chosen other : List CoreStmt) → stmt_in_range (stmt.If test chosen other) ≡ (expr_in_range test && list_all (λ so. so) (map stmt_in_range chosen) && list_all (λ so. so) (map stmt_in_range other))
 if_range test chosen other = ap stmt_in_range (sym (stmt.rolls-If test chosen other)) ∙ stmt_range_layer (stmt_layer.If test chosen other)
 
+pub loop_range : (stmts : List CoreStmt) → stmt_in_range (stmt.Loop stmts) ≡ list_all (λ so. so) (map stmt_in_range stmts)
+loop_range stmts = ap stmt_in_range (sym (stmt.rolls-Loop stmts)) ∙ stmt_range_layer (stmt_layer.Loop stmts)
+
+pub break_range : stmt_in_range stmt.Break ≡ true
+break_range = ap stmt_in_range (sym stmt.rolls-Break) ∙ stmt_range_layer stmt_layer.Break
+
+pub get_range : (path : CorePath) → stmt_in_range (stmt.Get path) ≡ true
+get_range path = ap stmt_in_range (sym (stmt.rolls-Get path)) ∙ stmt_range_layer (stmt_layer.Get path)
+
 pub call_range : (target : Option CorePath) (number : ℕ) → stmt_in_range (stmt.Call target number) ≡ true
 call_range target number = ap stmt_in_range (sym (stmt.rolls-Call target number)) ∙ stmt_range_layer (stmt_layer.Call target number)
 
@@ -137,3 +164,31 @@ halt_range kind file line = ap stmt_in_range (sym (stmt.rolls-Halt kind file lin
 
 pub return_range : (e : CoreExpr) → stmt_in_range (stmt.Return e) ≡ expr_in_range e
 return_range e = ap stmt_in_range (sym (stmt.rolls-Return e)) ∙ stmt_range_layer (stmt_layer.Return e)
+
+pub strays_layer : (x : CoreStmt-F CoreStmt) → strays (roll-CoreStmt x) ≡ strays_step (map-CoreStmt CoreStmt Bool strays x)
+unfolding strays
+strays_layer x = fold-roll-CoreStmt Bool strays_step x
+
+pub store_strays : (path : CorePath) (e : CoreExpr) → strays (stmt.Store path e) ≡ false
+store_strays path e = ap strays (sym (stmt.rolls-Store path e)) ∙ strays_layer (stmt_layer.Store path e)
+
+pub if_strays : (test : CoreExpr) (chosen other : List CoreStmt) → strays (stmt.If test chosen other) ≡ (list_any (λ so. so) (map strays chosen) || list_any (λ so. so) (map strays other))
+if_strays test chosen other = ap strays (sym (stmt.rolls-If test chosen other)) ∙ strays_layer (stmt_layer.If test chosen other)
+
+pub loop_strays : (stmts : List CoreStmt) → strays (stmt.Loop stmts) ≡ false
+loop_strays stmts = ap strays (sym (stmt.rolls-Loop stmts)) ∙ strays_layer (stmt_layer.Loop stmts)
+
+pub call_strays : (target : Option CorePath) (number : ℕ) → strays (stmt.Call target number) ≡ false
+call_strays target number = ap strays (sym (stmt.rolls-Call target number)) ∙ strays_layer (stmt_layer.Call target number)
+
+pub put_strays : (e : CoreExpr) → strays (stmt.Put e) ≡ false
+put_strays e = ap strays (sym (stmt.rolls-Put e)) ∙ strays_layer (stmt_layer.Put e)
+
+pub get_strays : (path : CorePath) → strays (stmt.Get path) ≡ false
+get_strays path = ap strays (sym (stmt.rolls-Get path)) ∙ strays_layer (stmt_layer.Get path)
+
+pub halt_strays : (kind file line : ℕ) → strays (stmt.Halt kind file line) ≡ false
+halt_strays kind file line = ap strays (sym (stmt.rolls-Halt kind file line)) ∙ strays_layer (stmt_layer.Halt kind file line)
+
+pub return_strays : (e : CoreExpr) → strays (stmt.Return e) ≡ false
+return_strays e = ap strays (sym (stmt.rolls-Return e)) ∙ strays_layer (stmt_layer.Return e)

@@ -1,6 +1,9 @@
 -- How deep the core of a plain program nests.
-use Rattle.std.proofs.Common.{◌≡◌, ℕ, suc, ◌+◌, ◌≤◌, List, [], ◌∷◌, ◌++◌, map, max, Option, Some, None, codes, refl, sym, subst, ap, arith, le_trans}
+use Rattle.std.proofs.Common.{◌≡◌, ℕ, suc, ◌+◌, ◌≤◌, pos, List, [], ◌∷◌, ◌++◌, map, max, Option, Some, None, codes, refl, sym, subst, ap, arith, le_trans}
 use Rattle.std.specs.List.{fold, AllByRecursion}
+use Rattle.sl_num.specs.declared.arithmetic.Op.TheVariants.{Add}
+use Rattle.sl_num.specs.declared.comparing.Comparison.TheVariants.{Less}
+use Rattle.sl_core.specs.declared.tree.CorePath.{CorePath}
 use Rattle.sl_core.specs.declared.tree.CoreExpr.{CoreExpr}
 use Rattle.sl_core.specs.declared.tree.CoreExpr.TheVariants as expr
 use Rattle.sl_core.specs.declared.tree.CoreStmt.{CoreStmt}
@@ -12,17 +15,17 @@ use Rattle.sl_plain.specs.declared.line.Kind.TheVariants as kind
 use Rattle.sl_plain.specs.declared.line.Atom.{Atom}
 use Rattle.sl_plain.specs.declared.line.Atom.TheVariants.{Name, Number, Truth}
 use Rattle.sl_plain.specs.declared.line.Right.{Right}
-use Rattle.sl_plain.specs.declared.line.Right.TheVariants.{Just, Compare, Apply}
+use Rattle.sl_plain.specs.declared.line.Right.TheVariants.{Just, Compare, Apply, Get}
 use Rattle.sl_plain.specs.declared.line.Condition.{Condition}
 use Rattle.sl_plain.specs.declared.line.Condition.TheVariants as condition
 use Rattle.sl_plain.specs.declared.tree.Stmt.{Stmt, Stmt-F, ind-Stmt, map-Stmt, roll-Stmt}
 use Rattle.sl_plain.specs.declared.tree.Stmt.TheOpen as stmt
 use Rattle.sl_plain.specs.Plain.{Declared, deepest, depth_step, depth, kind_of_atom}
 use Rattle.sl_plain.specs.Means.{assert_halt, halt_halt}
-use Rattle.sl_plain.specs.Lowered.{path_of, atom_expr, right_expr, condition_expr, put_text, print_of, Lowered, in_order, count_of, lowered_step, lowered, z}
+use Rattle.sl_plain.specs.Lowered.{path_of, atom_expr, condition_expr, store_right, unnamed, leave_unless, raise, for_round, put_text, print_of, Lowered, in_order, count_of, lowered_step, lowered, z}
 use Rattle.sl_plain.proofs.Layers.{depth_layer, lowered_layer}
 use Rattle.sl_plain.proofs.Names.{all_append, all_so}
-use Rattle.sl_plain.proofs.CoreLayers.{number_depth, text_depth, path_depth, apply_depth, compare_depth, store_depth, if_depth, put_depth, halt_depth}
+use Rattle.sl_plain.proofs.CoreLayers.{number_depth, text_depth, path_depth, apply_depth, compare_depth, store_depth, if_depth, loop_depth, break_depth, get_depth, put_depth, halt_depth}
 
 -- the greatest of some is no more than what bounds them all
 pub greatest_within : (n a : ℕ) (xs : List ℕ) → a ≤ n → AllByRecursion (λ x. x ≤ n) xs → fold max a xs ≤ n
@@ -54,12 +57,7 @@ module _ (names : List Declared) where
   atom_depth (Number number) = number_depth number z
   atom_depth (Truth so) = number_depth (truth so) z
 
-  -- a right side, and a condition
-  right_depth : (line : ℕ) (right : Right) → expr_depth (right_expr names line right) ≤ 2
-  right_depth line (Just atom) = let is = atom_depth atom in omega arith
-  right_depth line (Compare by a b) = let is = compare_depth by (atom_expr names a) (atom_expr names b) z in let left = atom_depth a in let right = atom_depth b in omega arith
-  right_depth line (Apply op a b) = let is = apply_depth op (atom_expr names a) (atom_expr names b) z 0 line in let left = atom_depth a in let right = atom_depth b in omega arith
-
+  -- a condition
   condition_depth : (test : Condition) → expr_depth (condition_expr names test) ≤ 2
   condition_depth (condition.Just atom) = let is = atom_depth atom in omega arith
   condition_depth (condition.Compare by a b) = let is = compare_depth by (atom_expr names a) (atom_expr names b) z in let left = atom_depth a in let right = atom_depth b in omega arith
@@ -79,15 +77,53 @@ module _ (names : List Declared) where
       let second = shallow_greatest n other b
       in (omega arith, tt)
 
-  store_shallow : (line : ℕ) (name : List ℕ) (right : Right) → Shallow 3 (core.Store (path_of names name) (right_expr names line right) ∷ [])
-  store_shallow line name right = let is = store_depth (path_of names name) (right_expr names line right) in let le = right_depth line right in (omega arith, tt)
+  -- a loop as well
+  loop_shallow : (n : ℕ) (body : List CoreStmt) → Shallow n body → Shallow (suc n) (core.Loop body ∷ [])
+  loop_shallow n body all =
+      let is = loop_depth body in
+      let most = shallow_greatest n body all
+      in (omega arith, tt)
+
+  -- an expression that is stored
+  stored_shallow : (n d : ℕ) (path : CorePath) (e : CoreExpr) → expr_depth e ≤ d → 1 + d ≤ n → Shallow n (core.Store path e ∷ [])
+  stored_shallow n d path e le less = let is = store_depth path e in (omega arith, tt)
+
+  right_shallow : (line : ℕ) (path : CorePath) (right : Right) → Shallow 4 (store_right names line path right ∷ [])
+  right_shallow line path (Just atom) = stored_shallow 4 1 path (atom_expr names atom) (let is = atom_depth atom in omega arith) (omega arith)
+  right_shallow line path (Compare by a b) =
+      let is = compare_depth by (atom_expr names a) (atom_expr names b) z in let left = atom_depth a in let right = atom_depth b in
+      stored_shallow 4 2 path (expr.Compare by (atom_expr names a) (atom_expr names b) z) (omega arith) (omega arith)
+  right_shallow line path (Apply op a b) =
+      let is = apply_depth op (atom_expr names a) (atom_expr names b) z 0 line in let left = atom_depth a in let right = atom_depth b in
+      stored_shallow 4 2 path (expr.Apply op (atom_expr names a) (atom_expr names b) z 0 line) (omega arith) (omega arith)
+  right_shallow line path Get = let is = get_depth path in (omega arith, tt)
+
+  leave_shallow : (n : ℕ) (e : CoreExpr) → expr_depth e ≤ 2 → 3 ≤ n → Shallow n (leave_unless e ∷ [])
+  leave_shallow n e le less =
+      let is = if_depth e [] (core.Break ∷ []) in
+      let first = shallow_greatest 1 [] tt in
+      let second = shallow_greatest 1 (core.Break ∷ []) (let left = break_depth in omega arith, tt)
+      in (omega arith, tt)
+
+  -- a round of a `for`
+  round_shallow : (n line : ℕ) (path next bound : CorePath) (body : List CoreStmt) → 3 ≤ n → Shallow n body → Shallow n (for_round line path next bound body)
+  round_shallow n line path next bound body le all =
+      let is = compare_depth Less (expr.Path next z) (expr.Path bound z) z in
+      let of_next = path_depth next z in
+      let of_bound = path_depth bound z in
+      let sum = apply_depth Add (expr.Path next z) (expr.Number (pos 1) z) z 0 line in
+      let of_one = number_depth (pos 1) z in
+      let asks = leave_shallow n (expr.Compare Less (expr.Path next z) (expr.Path bound z) z) (omega arith) le in
+      let named = stored_shallow n 1 path (expr.Path next z) (omega arith) (omega arith) in
+      let raised = stored_shallow n 2 next (expr.Apply Add (expr.Path next z) (expr.Number (pos 1) z) z 0 line) (omega arith) (omega arith)
+      in (asks.0, (named.0, all_append (λ s. stmt_depth s ≤ n) body (raise line next ∷ []) all raised))
 
   text_shallow : (n : ℕ) (text : List ℕ) → 2 ≤ n → Shallow n (put_text text ∷ [])
   text_shallow n text le = let is = put_depth (expr.TextOf text) in let of = text_depth text in (omega arith, tt)
 
   -- what is known of a statement
   abbrev Claim : Stmt → Type 0
-  Claim s = (line : ℕ) → Shallow (depth s + 3) ((lowered names s).from line)
+  Claim s = (taken line : ℕ) → Shallow (depth s + 4) ((lowered names s).from taken line)
 
   abbrev Known : Type 0
   Known = (s : Stmt) × Claim s
@@ -98,58 +134,72 @@ module _ (names : List Declared) where
   more : (m n : ℕ) → m ≤ n → (stmts : List CoreStmt) → Shallow m stmts → Shallow n stmts
   more m n le stmts all = all_so (λ s. stmt_depth s ≤ m) (λ s. stmt_depth s ≤ n) (λ s h. le_trans h le) stmts all
 
-  block : (n : ℕ) (ks : List Known) → AllByRecursion (λ d. d ≤ n) (map depth (map first ks)) → (line : ℕ) → Shallow (n + 3) (in_order (map (lowered names) (map first ks)) line)
-  block n [] all line = tt
-  block n (k ∷ ks) all line =
-      all_append (λ s. stmt_depth s ≤ n + 3) ((lowered names k.0).from line) (in_order (map (lowered names) (map first ks)) (line + (lowered names k.0).count))
-      (more (depth k.0 + 3) (n + 3) (let le = all.0 in omega arith) ((lowered names k.0).from line) (k.1 line))
-      (block n ks all.1 (line + (lowered names k.0).count))
+  block : (n : ℕ) (ks : List Known) → AllByRecursion (λ d. d ≤ n) (map depth (map first ks)) → (taken line : ℕ) → Shallow (n + 4) (in_order (map (lowered names) (map first ks)) taken line)
+  block n [] all taken line = tt
+  block n (k ∷ ks) all taken line =
+      all_append (λ s. stmt_depth s ≤ n + 4) ((lowered names k.0).from taken line) (in_order (map (lowered names) (map first ks)) taken (line + (lowered names k.0).count))
+      (more (depth k.0 + 4) (n + 4) (let le = all.0 in omega arith) ((lowered names k.0).from taken line) (k.1 taken line))
+      (block n ks all.1 taken (line + (lowered names k.0).count))
 
   -- every statement
   claim : (s : Stmt) → Claim s
   claim s = ind-Stmt Claim (λ x y same. subst (λ z. Claim (roll-Stmt z)) same (layer y)) s
     where
-      via : (x : Stmt-F Stmt) → ((line : ℕ) → Shallow (depth_step (map-Stmt Stmt ℕ depth x) + 3) ((lowered_step names (map-Stmt Stmt Lowered (lowered names) x)).from line)) → Claim (roll-Stmt x)
+      via : (x : Stmt-F Stmt) → ((taken line : ℕ) → Shallow (depth_step (map-Stmt Stmt ℕ depth x) + 4) ((lowered_step names (map-Stmt Stmt Lowered (lowered names) x)).from taken line)) → Claim (roll-Stmt x)
       via x h =
-          subst (λ d. (line : ℕ) → Shallow (d + 3) ((lowered names (roll-Stmt x)).from line)) (sym (depth_layer x))
-          (subst (λ (l : Lowered). (line : ℕ) → Shallow (depth_step (map-Stmt Stmt ℕ depth x) + 3) (l.from line)) (sym (lowered_layer names x)) h)
+          subst (λ d. (taken line : ℕ) → Shallow (d + 4) ((lowered names (roll-Stmt x)).from taken line)) (sym (depth_layer x))
+          (subst (λ (l : Lowered). (taken line : ℕ) → Shallow (depth_step (map-Stmt Stmt ℕ depth x) + 4) (l.from taken line)) (sym (lowered_layer names x)) h)
 
-      print_shallow : (given : Option Kind) (atom : Atom) → Shallow 3 (print_of given (atom_expr names atom))
-      print_shallow (Some kind.Truth) atom = choice_shallow 2 (atom_expr names atom) (put_text (codes "T\n") ∷ []) (put_text (codes "F\n") ∷ []) (let is = atom_depth atom in omega arith) (text_shallow 2 (codes "T\n") (omega arith)) (text_shallow 2 (codes "F\n") (omega arith))
-      print_shallow (Some kind.Number) atom = let is = put_depth (atom_expr names atom) in let of = atom_depth atom in (omega arith, text_shallow 3 (codes "\n") (omega arith))
-      print_shallow None atom = let is = put_depth (atom_expr names atom) in let of = atom_depth atom in (omega arith, text_shallow 3 (codes "\n") (omega arith))
+      print_shallow : (given : Option Kind) (atom : Atom) → Shallow 4 (print_of given (atom_expr names atom))
+      print_shallow (Some kind.Truth) atom = choice_shallow 3 (atom_expr names atom) (put_text (codes "T\n") ∷ []) (put_text (codes "F\n") ∷ []) (let is = atom_depth atom in omega arith) (text_shallow 3 (codes "T\n") (omega arith)) (text_shallow 3 (codes "F\n") (omega arith))
+      print_shallow (Some kind.Number) atom = let is = put_depth (atom_expr names atom) in let of = atom_depth atom in (omega arith, text_shallow 4 (codes "\n") (omega arith))
+      print_shallow None atom = let is = put_depth (atom_expr names atom) in let of = atom_depth atom in (omega arith, text_shallow 4 (codes "\n") (omega arith))
 
       halt_shallow : (n kind line : ℕ) → 1 ≤ n → Shallow n (core.Halt kind 0 line ∷ [])
       halt_shallow n kind line le = let is = halt_depth kind 0 line in (omega arith, tt)
 
       layer : (y : Stmt-F Known) → Claim (roll-Stmt (map-Stmt Known Stmt first y))
-      layer (stmt.Declare is_var name type right) = via (stmt.Declare is_var name type right) (λ line. store_shallow line name right)
-      layer (stmt.Assign name value) = via (stmt.Assign name value) (λ line. store_shallow line name value)
-      layer (stmt.Print atom) = via (stmt.Print atom) (λ line. print_shallow (kind_of_atom names atom) atom)
-      layer (stmt.PrintText text) = via (stmt.PrintText text) (λ line. text_shallow 3 (text ++ 10 ∷ []) (omega arith))
-      layer (stmt.If test chosen None) = via (stmt.If test (map first chosen) None) (λ line.
+      layer (stmt.Declare is_var name type right) = via (stmt.Declare is_var name type right) (λ taken line. right_shallow line (path_of names name) right)
+      layer (stmt.Assign name value) = via (stmt.Assign name value) (λ taken line. right_shallow line (path_of names name) value)
+      layer (stmt.Print atom) = via (stmt.Print atom) (λ taken line. print_shallow (kind_of_atom names atom) atom)
+      layer (stmt.PrintText text) = via (stmt.PrintText text) (λ taken line. text_shallow 4 (text ++ 10 ∷ []) (omega arith))
+      layer (stmt.If test chosen None) = via (stmt.If test (map first chosen) None) (λ taken line.
           let n = deepest (map depth (map first chosen)) in
-          let low = in_order (map (lowered names) (map first chosen)) (suc line)
-          in more (suc (n + 3)) (suc (max n 0) + 3) (omega arith) (core.If (condition_expr names test) low [] ∷ []) (choice_shallow (n + 3) (condition_expr names test) low [] (let le = condition_depth test in omega arith) (block n chosen (greatest_bounds 0 (map depth (map first chosen))) (suc line)) tt))
-      layer (stmt.If test chosen (Some other)) = via (stmt.If test (map first chosen) (Some (map first other))) (λ line.
+          let low = in_order (map (lowered names) (map first chosen)) taken (suc line)
+          in more (suc (n + 4)) (suc (max n 0) + 4) (omega arith) (core.If (condition_expr names test) low [] ∷ []) (choice_shallow (n + 4) (condition_expr names test) low [] (let le = condition_depth test in omega arith) (block n chosen (greatest_bounds 0 (map depth (map first chosen))) taken (suc line)) tt))
+      layer (stmt.If test chosen (Some other)) = via (stmt.If test (map first chosen) (Some (map first other))) (λ taken line.
           let a = deepest (map depth (map first chosen)) in
           let b = deepest (map depth (map first other)) in
           let n = max a b in
           let after = suc (suc line + count_of (map (lowered names) (map first chosen))) in
-          let low = in_order (map (lowered names) (map first chosen)) (suc line) in
-          let low_other = in_order (map (lowered names) (map first other)) after
-          in more (suc (n + 3)) (suc n + 3) (omega arith) (core.If (condition_expr names test) low low_other ∷ []) (choice_shallow (n + 3) (condition_expr names test) low low_other (let le = condition_depth test in omega arith)
-          (more (a + 3) (n + 3) (omega arith) low (block a chosen (greatest_bounds 0 (map depth (map first chosen))) (suc line)))
-          (more (b + 3) (n + 3) (omega arith) low_other (block b other (greatest_bounds 0 (map depth (map first other))) after))))
-      layer (stmt.Assert test) = via (stmt.Assert test) (λ line. choice_shallow 2 (condition_expr names test) [] (core.Halt assert_halt 0 line ∷ []) (condition_depth test) tt (halt_shallow 2 assert_halt line (omega arith)))
-      layer (stmt.Halt text) = via (stmt.Halt text) (λ line. halt_shallow 3 halt_halt line (omega arith))
+          let low = in_order (map (lowered names) (map first chosen)) taken (suc line) in
+          let low_other = in_order (map (lowered names) (map first other)) taken after
+          in more (suc (n + 4)) (suc n + 4) (omega arith) (core.If (condition_expr names test) low low_other ∷ []) (choice_shallow (n + 4) (condition_expr names test) low low_other (let le = condition_depth test in omega arith)
+          (more (a + 4) (n + 4) (omega arith) low (block a chosen (greatest_bounds 0 (map depth (map first chosen))) taken (suc line)))
+          (more (b + 4) (n + 4) (omega arith) low_other (block b other (greatest_bounds 0 (map depth (map first other))) taken after))))
+      layer (stmt.While test body) = via (stmt.While test (map first body)) (λ taken line.
+          let n = deepest (map depth (map first body)) in
+          let low = in_order (map (lowered names) (map first body)) taken (suc line) in
+          let leaves = leave_shallow (n + 4) (condition_expr names test) (condition_depth test) (omega arith)
+          in more (suc (n + 4)) (suc n + 4) (omega arith) (core.Loop (leave_unless (condition_expr names test) ∷ low) ∷ []) (loop_shallow (n + 4) (leave_unless (condition_expr names test) ∷ low) (leaves.0, block n body (greatest_bounds 0 (map depth (map first body))) taken (suc line))))
+      layer (stmt.Spin test) = via (stmt.Spin test) (λ taken line. loop_shallow 3 (leave_unless (condition_expr names test) ∷ []) (leave_shallow 3 (condition_expr names test) (condition_depth test) (omega arith)))
+      layer (stmt.For name from to body) = via (stmt.For name from to (map first body)) (λ taken line.
+          let n = deepest (map depth (map first body)) in
+          let low = in_order (map (lowered names) (map first body)) (suc (suc taken)) (suc line) in
+          let round = for_round line (path_of names name) (unnamed names taken) (unnamed names (suc taken)) low in
+          let first_stored = stored_shallow (suc n + 4) 1 (unnamed names taken) (atom_expr names from) (let is = atom_depth from in omega arith) (omega arith) in
+          let second_stored = stored_shallow (suc n + 4) 1 (unnamed names (suc taken)) (atom_expr names to) (let is = atom_depth to in omega arith) (omega arith) in
+          let loops = more (suc (n + 4)) (suc n + 4) (omega arith) (core.Loop round ∷ []) (loop_shallow (n + 4) round (round_shallow (n + 4) line (path_of names name) (unnamed names taken) (unnamed names (suc taken)) low (omega arith) (block n body (greatest_bounds 0 (map depth (map first body))) (suc (suc taken)) (suc line))))
+          in (first_stored.0, (second_stored.0, loops)))
+      layer (stmt.Assert test) = via (stmt.Assert test) (λ taken line. choice_shallow 3 (condition_expr names test) [] (core.Halt assert_halt 0 line ∷ []) (let le = condition_depth test in omega arith) tt (halt_shallow 3 assert_halt line (omega arith)))
+      layer (stmt.Halt text) = via (stmt.Halt text) (λ taken line. halt_shallow 4 halt_halt line (omega arith))
 
   known_of : (ss : List Stmt) → (ks : List Known) × (map first ks ≡ ss)
   known_of [] = ([], refl)
   known_of (s ∷ ss) = let ks = known_of ss in ((s, claim s) ∷ ks.0, ap (λ rest. s ∷ rest) ks.1)
 
   -- statements that nest at most so deep
-  pub statements_shallow : (n : ℕ) (ss : List Stmt) → AllByRecursion (λ s. depth s ≤ n) ss → (line : ℕ) → Shallow (n + 3) (in_order (map (lowered names) ss) line)
+  pub statements_shallow : (n : ℕ) (ss : List Stmt) → AllByRecursion (λ s. depth s ≤ n) ss → (taken line : ℕ) → Shallow (n + 4) (in_order (map (lowered names) ss) taken line)
   statements_shallow n ss all =
       let ks = known_of ss
-      in subst (λ ss. AllByRecursion (λ s. depth s ≤ n) ss → (line : ℕ) → Shallow (n + 3) (in_order (map (lowered names) ss) line)) ks.1 (λ all. block n ks.0 (all_to_map (λ d. d ≤ n) depth (map first ks.0) all)) all
+      in subst (λ ss. AllByRecursion (λ s. depth s ≤ n) ss → (taken line : ℕ) → Shallow (n + 4) (in_order (map (lowered names) ss) taken line)) ks.1 (λ all. block n ks.0 (all_to_map (λ d. d ≤ n) depth (map first ks.0) all)) all

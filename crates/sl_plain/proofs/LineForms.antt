@@ -2,5 +2,6 @@ pub mod Atoms
 pub mod Rights
 pub mod Fronts
 pub mod Bodies
+pub mod Loops
 pub mod Bytes
 pub mod Exactness

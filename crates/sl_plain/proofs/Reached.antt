@@ -5,18 +5,20 @@ use Rattle.sl_plain.specs.declared.line.Line.TheVariants as source
 use Rattle.sl_plain.specs.declared.tree.Stmt.{Stmt, Stmt-F, ind-Stmt, map-Stmt, roll-Stmt}
 use Rattle.sl_plain.specs.declared.tree.Stmt.TheOpen as stmt
 use Rattle.sl_plain.specs.declared.tree.Plain.{Plain}
-use Rattle.sl_plain.specs.Plain.{Declared, joined, lines_step, lines_of_stmt, declared_step, declared_in, body_lines, indented, lines_of, ended, IsPlain}
+use Rattle.sl_plain.specs.Plain.{Declared, deepest, joined, lines_step, lines_of_stmt, declared_step, declared_in, body_lines, indented, lines_of, ended, IsPlain}
 use Rattle.sl_plain.specs.Means.{Lined, count_of, meaning_step, meaning}
+use Rattle.sl_plain.specs.Lowered.{unnamed_step, unnamed_in}
 use Rattle.sl_plain.specs.Reach.{IsInReach}
 use Rattle.sl_plain.proofs.Layers.{lines_layer, declared_layer, meaning_layer}
+use Rattle.sl_plain.proofs.Unnamed.{unnamed_layer, deepest_within}
 use Rattle.sl_plain.proofs.Runs.{joined_map}
 
--- so many lines, and no more declarations
-abbrev Counted : List Line → List Declared → Lined → Type 0
-Counted lines entries plain = (plain.count ≡ length lines) × (length entries ≤ length lines)
+-- so many lines, and no more declarations, nor variables without names
+abbrev Counted : List Line → List Declared → ℕ → Lined → Type 0
+Counted lines entries unnamed plain = (plain.count ≡ length lines) × (length entries ≤ length lines) × (unnamed ≤ length lines)
 
 abbrev Claim : Stmt → Type 0
-Claim s = Counted (lines_of_stmt s) (declared_in s) (meaning s)
+Claim s = Counted (lines_of_stmt s) (declared_in s) (unnamed_in s) (meaning s)
 
 abbrev Known : Type 0
 Known = (s : Stmt) × Claim s
@@ -30,61 +32,87 @@ lines_in ks = joined (map lines_of_stmt (map first ks))
 abbrev entries_in : List Known → List Declared
 entries_in ks = joined (map declared_in (map first ks))
 
-block : (ks : List Known) → (count_of (map meaning (map first ks)) ≡ length (lines_in ks)) × (length (entries_in ks) ≤ length (lines_in ks))
-block [] = (refl, omega arith)
+-- so many lines of statements, and no more of the others
+abbrev Block : List Stmt → Type 0
+Block ss = (count_of (map meaning ss) ≡ length (joined (map lines_of_stmt ss))) × (length (joined (map declared_in ss)) ≤ length (joined (map lines_of_stmt ss))) × (deepest (map unnamed_in ss) ≤ length (joined (map lines_of_stmt ss)))
+
+block : (ks : List Known) → Block (map first ks)
+block [] = (refl, omega arith, omega arith)
 block (k ∷ ks) =
     let rest = block ks in
     let count = k.1.0 in
     let few = k.1.1 in
+    let need = k.1.2 in
     let count_rest = rest.0 in
     let few_rest = rest.1 in
+    let need_rest = rest.2 in
     let lines = length-append (lines_of_stmt k.0) (lines_in ks) in
-    let entries = length-append (declared_in k.0) (entries_in ks)
-    in (omega arith, omega arith)
+    let entries = length-append (declared_in k.0) (entries_in ks) in
+    let most = deepest_within (length (lines_of_stmt k.0) + length (lines_in ks)) (unnamed_in k.0) (map unnamed_in (map first ks)) (omega arith) (omega arith)
+    in (omega arith, omega arith, omega arith)
 
 claim : (s : Stmt) → Claim s
 claim s = ind-Stmt Claim (λ x y same. subst (λ z. Claim (roll-Stmt z)) same (layer y)) s
   where
-    via : (x : Stmt-F Stmt) → Counted (lines_step (map-Stmt Stmt (List Line) lines_of_stmt x)) (declared_step (map-Stmt Stmt (List Declared) declared_in x)) (meaning_step (map-Stmt Stmt Lined meaning x)) → Claim (roll-Stmt x)
+    via : (x : Stmt-F Stmt) → Counted (lines_step (map-Stmt Stmt (List Line) lines_of_stmt x)) (declared_step (map-Stmt Stmt (List Declared) declared_in x)) (unnamed_step (map-Stmt Stmt ℕ unnamed_in x)) (meaning_step (map-Stmt Stmt Lined meaning x)) → Claim (roll-Stmt x)
     via x h =
-        subst (λ l. Counted l (declared_in (roll-Stmt x)) (meaning (roll-Stmt x))) (sym (lines_layer x))
-        (subst (λ d. Counted (lines_step (map-Stmt Stmt (List Line) lines_of_stmt x)) d (meaning (roll-Stmt x))) (sym (declared_layer x))
-        (subst (λ m. Counted (lines_step (map-Stmt Stmt (List Line) lines_of_stmt x)) (declared_step (map-Stmt Stmt (List Declared) declared_in x)) m) (sym (meaning_layer x)) h))
+        subst (λ l. Counted l (declared_in (roll-Stmt x)) (unnamed_in (roll-Stmt x)) (meaning (roll-Stmt x))) (sym (lines_layer x))
+        (subst (λ d. Counted (lines_step (map-Stmt Stmt (List Line) lines_of_stmt x)) d (unnamed_in (roll-Stmt x)) (meaning (roll-Stmt x))) (sym (declared_layer x))
+        (subst (λ n. Counted (lines_step (map-Stmt Stmt (List Line) lines_of_stmt x)) (declared_step (map-Stmt Stmt (List Declared) declared_in x)) n (meaning (roll-Stmt x))) (sym (unnamed_layer x))
+        (subst (λ m. Counted (lines_step (map-Stmt Stmt (List Line) lines_of_stmt x)) (declared_step (map-Stmt Stmt (List Declared) declared_in x)) (unnamed_step (map-Stmt Stmt ℕ unnamed_in x)) m) (sym (meaning_layer x)) h)))
 
     layer : (y : Stmt-F Known) → Claim (roll-Stmt (map-Stmt Known Stmt first y))
-    layer (stmt.Declare is_var name type right) = via (stmt.Declare is_var name type right) (refl, omega arith)
-    layer (stmt.Assign name value) = via (stmt.Assign name value) (refl, omega arith)
-    layer (stmt.Print atom) = via (stmt.Print atom) (refl, omega arith)
-    layer (stmt.PrintText text) = via (stmt.PrintText text) (refl, omega arith)
+    layer (stmt.Declare is_var name type right) = via (stmt.Declare is_var name type right) (refl, omega arith, omega arith)
+    layer (stmt.Assign name value) = via (stmt.Assign name value) (refl, omega arith, omega arith)
+    layer (stmt.Print atom) = via (stmt.Print atom) (refl, omega arith, omega arith)
+    layer (stmt.PrintText text) = via (stmt.PrintText text) (refl, omega arith, omega arith)
     layer (stmt.If test chosen None) = via (stmt.If test (map first chosen) None)
         (let inner = block chosen in
         let count = inner.0 in
         let few = inner.1 in
+        let need = inner.2 in
         let lines = length-append (lines_in chosen ++ []) (source.Close ∷ []) in
         let without = length-append (lines_in chosen) [] in
         let entries = length-append (entries_in chosen) []
-        in (omega arith, omega arith))
+        in (omega arith, omega arith, omega arith))
     layer (stmt.If test chosen (Some other)) = via (stmt.If test (map first chosen) (Some (map first other)))
         (let inner = block chosen in
         let count = inner.0 in
         let few = inner.1 in
+        let need = inner.2 in
         let inner_other = block other in
         let count_other = inner_other.0 in
         let few_other = inner_other.1 in
+        let need_other = inner_other.2 in
         let lines = length-append (lines_in chosen ++ source.Else ∷ lines_in other) (source.Close ∷ []) in
         let without = length-append (lines_in chosen) (source.Else ∷ lines_in other) in
         let entries = length-append (entries_in chosen) (entries_in other)
-        in (omega arith, omega arith))
-    layer (stmt.Assert test) = via (stmt.Assert test) (refl, omega arith)
-    layer (stmt.Halt text) = via (stmt.Halt text) (refl, omega arith)
+        in (omega arith, omega arith, omega arith))
+    layer (stmt.While test body) = via (stmt.While test (map first body))
+        (let inner = block body in
+        let count = inner.0 in
+        let few = inner.1 in
+        let need = inner.2 in
+        let lines = length-append (lines_in body) (source.Close ∷ [])
+        in (omega arith, omega arith, omega arith))
+    layer (stmt.Spin test) = via (stmt.Spin test) (refl, omega arith, omega arith)
+    layer (stmt.For name from to body) = via (stmt.For name from to (map first body))
+        (let inner = block body in
+        let count = inner.0 in
+        let few = inner.1 in
+        let need = inner.2 in
+        let lines = length-append (lines_in body) (source.Close ∷ [])
+        in (omega arith, omega arith, omega arith))
+    layer (stmt.Assert test) = via (stmt.Assert test) (refl, omega arith, omega arith)
+    layer (stmt.Halt text) = via (stmt.Halt text) (refl, omega arith, omega arith)
 
 known_of : (ss : List Stmt) → (ks : List Known) × (map first ks ≡ ss)
 known_of [] = ([], refl)
 known_of (s ∷ ss) = let ks = known_of ss in ((s, claim s) ∷ ks.0, ap (λ rest. s ∷ rest) ks.1)
 
--- statements have so many lines, and declare no more names
-statements_counted : (ss : List Stmt) → (count_of (map meaning ss) ≡ length (joined (map lines_of_stmt ss))) × (length (joined (map declared_in ss)) ≤ length (joined (map lines_of_stmt ss)))
-statements_counted ss = let ks = known_of ss in subst (λ ss. (count_of (map meaning ss) ≡ length (joined (map lines_of_stmt ss))) × (length (joined (map declared_in ss)) ≤ length (joined (map lines_of_stmt ss)))) ks.1 (block ks.0)
+-- statements have so many lines, declare no more names, and need no more variables without names
+statements_counted : (ss : List Stmt) → Block ss
+statements_counted ss = let ks = known_of ss in subst Block ks.1 (block ks.0)
 
 -- spaces in front change no number of lines
 indented_length : (spaces : List ℕ) (lines : List Line) → length (indented spaces lines) ≡ length lines
@@ -123,8 +151,9 @@ in_reach bytes program is short =
     let counted = statements_counted program.body in
     let count = counted.0 in
     let few = counted.1 in
+    let need = counted.2 in
     let lines = ap length (joined_map lines_of_stmt program.body) in
     let entries = ap length (joined_map declared_in program.body) in
     let body = length-append (flat_map lines_of_stmt program.body) (source.Return program.value ∷ []) in
     let most : length (ended (lines_of is.spaces program)) ≤ length bytes + 1 = ⊎_elim (λ e. let l = ap length e in omega arith) (λ e. let l = ap length e in let a = length-append bytes (10 ∷ []) in omega arith) is.lines
-    in record { names = omega arith; lines = omega arith }
+    in record { variables = omega arith; lines = omega arith }

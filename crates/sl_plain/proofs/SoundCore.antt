@@ -10,7 +10,7 @@ use Rattle.sl_core.specs.declared.tree.CoreStmt.{CoreStmt}
 use Rattle.sl_core.specs.declared.tree.CoreStmt.TheVariants as core
 use Rattle.sl_core.specs.declared.tree.CoreExpr.TheVariants as expr
 use Rattle.sl_core.specs.Meaning.{run_callees}
-use Rattle.sl_core.specs.Sound.{NumberOf, kind_of, fits, stmt_depth, stmt_in_range, deepest, IsType, IsExitType, IsFunction, IsSound}
+use Rattle.sl_core.specs.Sound.{NumberOf, kind_of, fits, strays, stmt_depth, stmt_in_range, deepest, IsType, IsExitType, IsFunction, IsSound}
 use Rattle.sl_plain.specs.declared.line.Kind.TheVariants as kind
 use Rattle.sl_plain.specs.declared.line.Line.TheVariants as source
 use Rattle.sl_plain.specs.declared.tree.Plain.{Plain}
@@ -19,15 +19,15 @@ use Rattle.sl_plain.specs.Lines.{IsLine, IsLetterOrDigit}
 use Rattle.sl_plain.specs.Plain.{Declared, declared, depth, lines_of_stmt, body_lines, BeginsWithCapital, IsProgram}
 use Rattle.sl_plain.specs.Means.{first_body_line}
 use Rattle.sl_plain.specs.Reach.{IsInReach}
-use Rattle.sl_plain.specs.Lowered.{atom_expr, lowered, main_body, main_of, start_fun, core_of, variable, z}
+use Rattle.sl_plain.specs.Lowered.{atom_expr, lowered, unnamed_of, main_body, main_of, start_fun, core_of, variable, z}
 use Rattle.sl_plain.specs.Lowered as lower
 use Rattle.sl_plain.proofs.Names.{from_all, to_all, all_so, all_before, all_behind, all_append}
 use Rattle.sl_plain.proofs.Statements.{statements}
 use Rattle.sl_plain.proofs.Keeping.{IsKept}
-use Rattle.sl_plain.proofs.Runs.{joined_map, program_is, has_type, core_never_stuck, nothing_declared}
+use Rattle.sl_plain.proofs.Runs.{joined_map, program_is, has_type, calm_run, core_never_stuck, nothing_declared}
 use Rattle.sl_plain.proofs.Depths.{atom_depth, statements_shallow}
-use Rattle.sl_plain.proofs.Fitting.{atom_kind, fits_kept, atom_range, range_kept}
-use Rattle.sl_plain.proofs.CoreLayers.{kind_of_path, call_fits_is, return_fits, call_depth, return_depth, path_depth, call_range, return_range, path_range}
+use Rattle.sl_plain.proofs.Fitting.{atom_kind, fits_kept, atom_range, range_kept, strays_kept}
+use Rattle.sl_plain.proofs.CoreLayers.{kind_of_path, call_fits_is, return_fits, call_depth, return_depth, path_depth, call_range, return_range, path_range, call_strays, return_strays}
 
 -- the type of numbers
 z_is_type : IsType (Int z_type)
@@ -58,6 +58,10 @@ module _ (plain : Plain) (is : IsProgram plain) (reach : IsInReach plain) where
   abbrev names : List Declared
   names = declared plain
 
+  -- how many variables have no names
+  abbrev rooms : ℕ
+  rooms = unnamed_of plain
+
   abbrev main : CoreFun
   main = main_of plain
 
@@ -66,18 +70,22 @@ module _ (plain : Plain) (is : IsProgram plain) (reach : IsInReach plain) where
   lines_are = from_all IsLine (body_lines plain) is.lines
 
   -- a condition that is kept by all statements holds of those of `main` before its return
-  kept_by : (P : CoreStmt → Type 0) → IsKept names (2 ^ 32) P → AllByRecursion P (lower.in_order (map (lowered names) plain.body) first_body_line)
+  kept_by : (P : CoreStmt → Type 0) → IsKept names rooms (2 ^ 32) P → AllByRecursion P (lower.in_order (map (lowered names) plain.body) 0 first_body_line)
   kept_by P kept =
       let fit = program_is plain is in
-      let after = statements target (has_type plain) names is.distinct [] (run_callees target) (2 ^ 32) P kept plain.body [] fit.scope fit.scoped (λ name entry h. absurd (nothing_declared name entry h)) fit.known
-      in after.keeps (subst (λ lines. AllByRecursion IsLine lines) (sym (joined_map lines_of_stmt plain.body)) (all_before IsLine (flat_map lines_of_stmt plain.body) (source.Return plain.value ∷ []) lines_are)) first_body_line reach.lines
+      let after = statements target (has_type plain) names is.distinct [] rooms (run_callees target) (calm_run plain is) (2 ^ 32) P kept plain.body [] fit.scope fit.scoped (λ name entry h. absurd (nothing_declared name entry h)) fit.known
+      in after.keeps (subst (λ lines. AllByRecursion IsLine lines) (sym (joined_map lines_of_stmt plain.body)) (all_before IsLine (flat_map lines_of_stmt plain.body) (source.Return plain.value ∷ []) lines_are)) 0 first_body_line (omega arith) reach.lines
+
+  -- all types fit
+  fits_all : IsKept names rooms (2 ^ 32) (λ s. fits target main s ≡ true)
+  fits_all = fits_kept target (has_type plain) names rooms main refl (2 ^ 32)
 
   -- what is returned is a number
   returned_kind : kind_of target main (atom_expr names plain.value) ≡ Some (NumberOf z)
   returned_kind =
       let fit = program_is plain is in
-      let after = statements target (has_type plain) names is.distinct [] (run_callees target) (2 ^ 32) (λ s. fits target main s ≡ true) (fits_kept target (has_type plain) names main refl (2 ^ 32)) plain.body [] fit.scope fit.scoped (λ name entry h. absurd (nothing_declared name entry h)) fit.known
-      in atom_kind target (has_type plain) names main refl fit.scope after.within plain.value kind.Number fit.value (all_behind IsLine (flat_map lines_of_stmt plain.body) (source.Return plain.value ∷ []) lines_are).0
+      let after = statements target (has_type plain) names is.distinct [] rooms (run_callees target) (calm_run plain is) (2 ^ 32) (λ s. fits target main s ≡ true) fits_all plain.body [] fit.scope fit.scoped (λ name entry h. absurd (nothing_declared name entry h)) fit.known
+      in atom_kind target (has_type plain) names rooms main refl fit.scope after.within plain.value kind.Number fit.value (all_behind IsLine (flat_map lines_of_stmt plain.body) (source.Return plain.value ∷ []) lines_are).0
 
   -- the bytes of the name of `main`
   name_bytes : AllByRecursion (λ byte. byte ≤ 255) main.name
@@ -88,21 +96,22 @@ module _ (plain : Plain) (is : IsProgram plain) (reach : IsInReach plain) where
 
   main_is : IsFunction target main
   main_is = record {
-    vars = to_all _ main.vars (all_replicate (λ type. is_some (slice_get target.types type) ≡ true) z z_there (length names));
+    vars = to_all _ main.vars (all_replicate (λ type. is_some (slice_get target.types type) ≡ true) z z_there (length names + rooms));
     result = z_there;
-    fit = to_all _ main.body (all_append _ low returns (kept_by (λ s. fits target main s ≡ true) (fits_kept target (has_type plain) names main refl (2 ^ 32))) (return_fits target main (atom_expr names plain.value) ∙ rw returned_kind refl, tt));
+    fit = to_all _ main.body (all_append _ low returns (kept_by (λ s. fits target main s ≡ true) fits_all) (return_fits target main (atom_expr names plain.value) ∙ rw returned_kind refl, tt));
+    loops = to_all _ main.body (all_append _ low returns (kept_by (λ s. strays s ≡ false) (strays_kept names rooms (2 ^ 32))) (return_strays (atom_expr names plain.value), tt));
     depth = to_all _ main.body (all_append _ low returns
-        (all_so (λ s. stmt_depth s ≤ 16 + 3) (λ s. stmt_depth s ≤ deepest) (λ s h. omega arith) low (statements_shallow names 16 plain.body (from_all (λ s. depth s ≤ 16) plain.body is.depth) first_body_line))
+        (all_so (λ s. stmt_depth s ≤ 16 + 4) (λ s. stmt_depth s ≤ deepest) (λ s h. omega arith) low (statements_shallow names 16 plain.body (from_all (λ s. depth s ≤ 16) plain.body is.depth) 0 first_body_line))
         (let d = return_depth (atom_expr names plain.value) in let e = atom_depth names plain.value in omega arith, tt));
     in_range = record {
       name = to_all _ main.name name_bytes;
-      vars = let n = length-replicate (length names) z in let le = reach.names in omega arith;
-      body = to_all _ main.body (all_append _ low returns (kept_by (λ s. stmt_in_range s ≡ true) (range_kept names)) (return_range (atom_expr names plain.value) ∙ atom_range names plain.value, tt));
+      vars = let n = length-replicate (length names + rooms) z in let le = reach.variables in omega arith;
+      body = to_all _ main.body (all_append _ low returns (kept_by (λ s. stmt_in_range s ≡ true) (range_kept names rooms)) (return_range (atom_expr names plain.value) ∙ atom_range names plain.value, tt));
     };
   }
     where
       low : List CoreStmt
-      low = lower.in_order (map (lowered names) plain.body) first_body_line
+      low = lower.in_order (map (lowered names) plain.body) 0 first_body_line
 
       returns : List CoreStmt
       returns = core.Return (atom_expr names plain.value) ∷ []
@@ -116,6 +125,7 @@ module _ (plain : Plain) (is : IsProgram plain) (reach : IsInReach plain) where
     vars = to_all (λ type. is_some (slice_get target.types type) ≡ true) (z ∷ []) (refl, tt);
     result = refl;
     fit = to_all (λ s. fits target start_fun s ≡ true) start_fun.body (call_fits_is target start_fun (Some (variable 0)) 0, (return_fits target start_fun (expr.Path (variable 0) z) ∙ rw (kind_of_path target start_fun (variable 0) z) refl, tt));
+    loops = to_all (λ s. strays s ≡ false) start_fun.body (call_strays (Some (variable 0)) 0, (return_strays (expr.Path (variable 0) z), tt));
     depth = to_all (λ s. stmt_depth s ≤ deepest) start_fun.body (let d = call_depth (Some (variable 0)) 0 in omega arith, (let d = return_depth (expr.Path (variable 0) z) in let e = path_depth (variable 0) z in omega arith, tt));
     in_range = record {
       name = to_all (λ byte. byte ≤ 255) start_fun.name (omega arith, (omega arith, (omega arith, (omega arith, (omega arith, tt)))));

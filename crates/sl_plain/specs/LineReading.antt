@@ -13,11 +13,11 @@ use Rattle.sl_plain.specs.declared.line.Kind.TheVariants as kind
 use Rattle.sl_plain.specs.declared.line.Atom.{Atom}
 use Rattle.sl_plain.specs.declared.line.Atom.TheVariants.{Name, Number, Truth}
 use Rattle.sl_plain.specs.declared.line.Right.{Right}
-use Rattle.sl_plain.specs.declared.line.Right.TheVariants.{Just, Compare, Apply}
+use Rattle.sl_plain.specs.declared.line.Right.TheVariants.{Just, Compare, Apply, Get}
 use Rattle.sl_plain.specs.declared.line.Condition.{Condition}
 use Rattle.sl_plain.specs.declared.line.Condition.TheVariants as condition
 use Rattle.sl_plain.specs.declared.line.Line.{Line}
-use Rattle.sl_plain.specs.declared.line.Line.TheVariants.{Declare, Assign, Print, PrintText, If, Else, Close, Assert, Halt, Return}
+use Rattle.sl_plain.specs.declared.line.Line.TheVariants.{Declare, Assign, Print, PrintText, If, While, Spin, For, Else, Close, Assert, Halt, Return}
 use Rattle.sl_plain.specs.declared.reading.rights.Sign.{Sign}
 use Rattle.sl_plain.specs.declared.reading.rights.Sign.TheVariants.{Compares, Applies}
 use Rattle.sl_plain.specs.declared.reading.words.Front.{Front}
@@ -134,9 +134,13 @@ joined_of left None = None
 joined_of left (Some cut) =
     option_and_then (λ sign. option_and_then (λ a. option_map (joined sign a) (atom_of cut.1)) (atom_of left)) (sign_of cut.0)
 
--- the bytes are an atom if they aren't cut, or an atom, a sign and an atom
+-- bytes without a space are the input or an atom
+abbrev pub single_of : List ℕ → Option Right
+single_of bytes = if bytes_eq bytes (codes "Port.get()") then Some Get else option_map Just (atom_of bytes)
+
+-- the bytes are the input or an atom if they aren't cut, or an atom, a sign and an atom
 abbrev pub right_from : List ℕ → Option (List ℕ × List ℕ) → Option Right
-right_from bytes None = option_map Just (atom_of bytes)
+right_from bytes None = single_of bytes
 right_from bytes (Some cut) = joined_of cut.0 (cut_at_space cut.1)
 
 -- the right side that these bytes are
@@ -148,6 +152,7 @@ abbrev pub condition_of : Right → Option Condition
 condition_of (Just atom) = Some (condition.Just atom)
 condition_of (Compare by a b) = Some (condition.Compare by a b)
 condition_of (Apply op a b) = None
+condition_of Get = None
 
 -- the condition that these bytes are
 abbrev pub condition_in : List ℕ → Option Condition
@@ -160,6 +165,8 @@ front_of word =
     else if bytes_eq word (codes "var") then front.Var
     else if bytes_eq word (codes "println") then front.Println
     else if bytes_eq word (codes "if") then front.If
+    else if bytes_eq word (codes "while") then front.While
+    else if bytes_eq word (codes "for") then front.For
     else if bytes_eq word (codes "assert") then front.Assert
     else if bytes_eq word (codes "halt") then front.Halt
     else if bytes_eq word (codes "return") then front.Return
@@ -193,6 +200,35 @@ printed bytes = option_or (option_map Print (atom_of bytes)) (option_map PrintTe
 abbrev pub print_of : List ℕ → Option Line
 print_of rest = option_and_then printed (between (codes "(") (codes ")") rest)
 
+-- the condition behind a space, between parentheses and with this end
+abbrev pub test_of : List ℕ → List ℕ → Option Condition
+test_of end rest = option_and_then condition_in (between (codes " (") end rest)
+
+-- the line with this behind `while`: one that begins a block, or one with nothing in its block
+abbrev pub while_of : List ℕ → Option Line
+while_of rest = option_or (option_map While (test_of (codes ") {") rest)) (option_map Spin (test_of (codes ") {}") rest))
+
+-- the `for` of this name, where these bytes are its bounds
+abbrev pub bounded : List ℕ → List ℕ → List ℕ → Option Line
+bounded name first end = option_and_then (λ a. option_map (For name a) (atom_of end)) (atom_of first)
+
+-- where these are the bounds with `until` between them
+abbrev pub bounded_by : List ℕ → List ℕ → Option Line
+bounded_by name bytes =
+    option_and_then (λ cut. option_and_then (bounded name cut.0) (between (codes "until ") [] cut.1)) (cut_at_space bytes)
+
+-- where the bounds stand behind an arrow
+abbrev pub arrow_of : List ℕ → List ℕ → Option Line
+arrow_of name bytes = if is_name name then option_and_then (bounded_by name) (between (codes " <- ") [] bytes) else None
+
+-- the `for` whose name and bounds these bytes are
+abbrev pub counting_of : List ℕ → Option Line
+counting_of bytes = arrow_of (word_of bytes) (behind_word bytes)
+
+-- the line with this behind `for`
+abbrev pub for_of : List ℕ → Option Line
+for_of rest = option_and_then counting_of (between (codes " (") (codes ") {") rest)
+
 -- the line that begins with a brace
 abbrev pub closing_of : List ℕ → Option Line
 closing_of rest = if bytes_eq rest (codes "}") then Some Close else if bytes_eq rest (codes "} else {") then Some Else else None
@@ -207,7 +243,9 @@ abbrev pub line_with : Front → List ℕ → List ℕ → Option Line
 line_with front.Val word rest = declaration_of false rest
 line_with front.Var word rest = declaration_of true rest
 line_with front.Println word rest = print_of rest
-line_with front.If word rest = option_map If (option_and_then condition_in (between (codes " (") (codes ") {") rest))
+line_with front.If word rest = option_map If (test_of (codes ") {") rest)
+line_with front.While word rest = while_of rest
+line_with front.For word rest = for_of rest
 line_with front.Assert word rest = option_map Assert (option_and_then condition_in (between (codes "(") (codes ")") rest))
 line_with front.Halt word rest = option_map Halt (option_and_then quoted_in (between (codes "(") (codes ")") rest))
 line_with front.Return word rest = option_map Return (option_and_then atom_of (between (codes " ") [] rest))

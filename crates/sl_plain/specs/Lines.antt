@@ -5,11 +5,12 @@
 --   ID = RIGHT
 --   println(ATOM)             println("TEXT")
 --   if (CONDITION) {          } else {                }
+--   while (CONDITION) {       while (CONDITION) {}    for (ID <- ATOM until ATOM) {
 --   assert(CONDITION)         halt("TEXT")
 --   return ATOM
 --
 -- TYPE is `Z` or `B`. ATOM is an ID, `T`, `F` or a number of 64 bits in decimal. CONDITION is an ATOM, or two with a comparison
--- between them. RIGHT is a CONDITION, or two ATOMs with one of `+ - * / %` between them.
+-- between them. RIGHT is a CONDITION, two ATOMs with one of `+ - * / %` between them, or `Port.get()`.
 use Rattle.std.specs.Prelude.{◌≢◌, ◌⊎◌, ℕ, ◌^◌, ◌-◌, ◌≤◌, ℤ, pos, neg_ℤ, ◌≤ℤ◌, Bool, true, false, List, [], ◌∷◌, ◌++◌, length, All, Contains, codes}
 use Rattle.std.specs.Fmt.{signed_decimal}
 use Rattle.sl_num.specs.declared.arithmetic.Op.{Op}
@@ -21,11 +22,11 @@ use Rattle.sl_plain.specs.declared.line.Kind.TheVariants as kind
 use Rattle.sl_plain.specs.declared.line.Atom.{Atom}
 use Rattle.sl_plain.specs.declared.line.Atom.TheVariants.{Name, Number, Truth}
 use Rattle.sl_plain.specs.declared.line.Right.{Right}
-use Rattle.sl_plain.specs.declared.line.Right.TheVariants.{Just, Compare, Apply}
+use Rattle.sl_plain.specs.declared.line.Right.TheVariants.{Just, Compare, Apply, Get}
 use Rattle.sl_plain.specs.declared.line.Condition.{Condition}
 use Rattle.sl_plain.specs.declared.line.Condition.TheVariants as condition
 use Rattle.sl_plain.specs.declared.line.Line.{Line}
-use Rattle.sl_plain.specs.declared.line.Line.TheVariants.{Declare, Assign, Print, PrintText, If, Else, Close, Assert, Halt, Return}
+use Rattle.sl_plain.specs.declared.line.Line.TheVariants.{Declare, Assign, Print, PrintText, If, While, Spin, For, Else, Close, Assert, Halt, Return}
 
 -- an ASCII small letter
 abbrev pub IsSmall : ℕ → Type 0
@@ -50,7 +51,8 @@ words =
     ∷ codes "true" ∷ codes "false" ∷ codes "type" ∷ codes "val" ∷ codes "var" ∷ codes "while" ∷ codes "with" ∷ codes "yield"
     ∷ []
 
--- the names that the subset reserves, of those that begin with a small letter: no declaration may take them
+-- the names that the subset reserves, of those that begin with a small letter: no variable may have one. (Those that it reserves for
+-- methods alone are none of them.)
 abbrev pub reserved_names : List (List ℕ)
 reserved_names = codes "conversions" ∷ codes "print" ∷ codes "println" ∷ codes "assert" ∷ codes "assume" ∷ codes "halt" ∷ []
 
@@ -87,6 +89,7 @@ abbrev pub IsRight : Right → Type 0
 IsRight (Just atom) = IsAtom atom
 IsRight (Compare by a b) = IsAtom a × IsAtom b
 IsRight (Apply op a b) = (op ≢ Neg) × IsAtom a × IsAtom b
+IsRight Get = Unit {0}
 
 -- a condition that a line may have
 abbrev pub IsCondition : Condition → Type 0
@@ -100,6 +103,9 @@ IsLine (Assign name value) = IsName name × IsRight value
 IsLine (Print atom) = IsAtom atom
 IsLine (PrintText text) = IsText text
 IsLine (If test) = IsCondition test
+IsLine (While test) = IsCondition test
+IsLine (Spin test) = IsCondition test
+IsLine (For name first end) = IsName name × IsAtom first × IsAtom end
 IsLine Else = Unit {0}
 IsLine Close = Unit {0}
 IsLine (Assert test) = IsCondition test
@@ -140,6 +146,7 @@ abbrev pub spelled_right : Right → List ℕ
 spelled_right (Just atom) = spelled_atom atom
 spelled_right (Compare by a b) = spelled_between (spelled_comparison by) a b
 spelled_right (Apply op a b) = spelled_between (spelled_op op) a b
+spelled_right Get = codes "Port.get()"
 
 -- the bytes of a condition
 abbrev pub spelled_condition : Condition → List ℕ
@@ -164,6 +171,9 @@ spelled (Assign name value) = name ++ codes " = " ++ spelled_right value
 spelled (Print atom) = codes "println(" ++ spelled_atom atom ++ codes ")"
 spelled (PrintText text) = codes "println(\"" ++ text ++ codes "\")"
 spelled (If test) = codes "if (" ++ spelled_condition test ++ codes ") {"
+spelled (While test) = codes "while (" ++ spelled_condition test ++ codes ") {"
+spelled (Spin test) = codes "while (" ++ spelled_condition test ++ codes ") {}"
+spelled (For name first end) = codes "for (" ++ name ++ codes " <- " ++ spelled_atom first ++ codes " until " ++ spelled_atom end ++ codes ") {"
 spelled Else = codes "} else {"
 spelled Close = codes "}"
 spelled (Assert test) = codes "assert(" ++ spelled_condition test ++ codes ")"

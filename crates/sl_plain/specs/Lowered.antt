@@ -1,7 +1,10 @@
--- The core of a plain program. Its variables are those of `main`, numbered in the order of their declarations; all have the type `Z`,
--- and a truth value is 1 or 0. The function in which a run begins calls `main` and gives what that gives.
-use Rattle.std.specs.Prelude.{ℕ, suc, ◌+◌, List, [], ◌∷◌, ◌++◌, Option, None, Some, unwrap_or, length, map, replicate, codes}
+-- The core of a plain program. Its variables are those of `main`, numbered in the order of their declarations, and behind them some
+-- without names: each `for` has two, for its next number and for its second bound, behind those of the `for`s around it. All have
+-- the type `Z`, and a truth value is 1 or 0. The function in which a run begins calls `main` and gives what that gives.
+use Rattle.std.specs.Prelude.{ℕ, suc, ◌+◌, pos, List, [], ◌∷◌, ◌++◌, Option, None, Some, unwrap_or, length, map, max, replicate, codes}
 use Rattle.std.specs.List.{position}
+use Rattle.sl_num.specs.declared.arithmetic.Op.TheVariants.{Add}
+use Rattle.sl_num.specs.declared.comparing.Comparison.TheVariants.{Less}
 use Rattle.std.specs.Str.{bytes_eq}
 use Rattle.sl_core.specs.declared.tree.Core.{Core}
 use Rattle.sl_core.specs.declared.tree.CoreType.TheVariants.{Int}
@@ -18,14 +21,14 @@ use Rattle.sl_plain.specs.declared.line.Kind.TheVariants as kind
 use Rattle.sl_plain.specs.declared.line.Atom.{Atom}
 use Rattle.sl_plain.specs.declared.line.Atom.TheVariants.{Name, Number, Truth}
 use Rattle.sl_plain.specs.declared.line.Right.{Right}
-use Rattle.sl_plain.specs.declared.line.Right.TheVariants.{Just, Compare, Apply}
+use Rattle.sl_plain.specs.declared.line.Right.TheVariants.{Just, Compare, Apply, Get}
 use Rattle.sl_plain.specs.declared.line.Condition.{Condition}
 use Rattle.sl_plain.specs.declared.line.Condition.TheVariants as condition
 use Rattle.sl_plain.specs.declared.tree.Stmt.{Stmt, Stmt-F, fold-Stmt}
 use Rattle.sl_plain.specs.declared.tree.Stmt.TheOpen as stmt
 use Rattle.sl_plain.specs.declared.tree.Plain.{Plain}
 use Rattle.sl_plain.specs.Numbers.{z_type}
-use Rattle.sl_plain.specs.Plain.{Declared, declared, kind_of_atom}
+use Rattle.sl_plain.specs.Plain.{Declared, declared, kind_of_atom, deepest, deepest_else}
 use Rattle.sl_plain.specs.Means.{assert_halt, halt_halt, first_body_line}
 
 -- the number of the type `Z`, the only one
@@ -45,15 +48,39 @@ atom_expr names (Name name) = expr.Path (path_of names name) z
 atom_expr names (Number number) = expr.Number number z
 atom_expr names (Truth so) = expr.Number (truth so) z
 
--- a right side on this line of the one file
-abbrev pub right_expr : List Declared → (line : ℕ) → Right → CoreExpr
-right_expr names line (Just atom) = atom_expr names atom
-right_expr names line (Compare by a b) = expr.Compare by (atom_expr names a) (atom_expr names b) z
-right_expr names line (Apply op a b) = expr.Apply op (atom_expr names a) (atom_expr names b) z 0 line
-
 abbrev pub condition_expr : List Declared → Condition → CoreExpr
 condition_expr names (condition.Just atom) = atom_expr names atom
 condition_expr names (condition.Compare by a b) = expr.Compare by (atom_expr names a) (atom_expr names b) z
+
+-- the value of a right side is stored, on this line of the one file
+abbrev pub store_right : List Declared → (line : ℕ) → CorePath → Right → CoreStmt
+store_right names line path (Just atom) = core.Store path (atom_expr names atom)
+store_right names line path (Compare by a b) = core.Store path (expr.Compare by (atom_expr names a) (atom_expr names b) z)
+store_right names line path (Apply op a b) = core.Store path (expr.Apply op (atom_expr names a) (atom_expr names b) z 0 line)
+store_right names line path Get = core.Get path
+
+-- the variable without a name that stands behind so many others of them
+abbrev pub unnamed : List Declared → ℕ → CorePath
+unnamed names others = variable (length names + others)
+
+-- the loop around is left where a number is 0
+abbrev pub leave_unless : CoreExpr → CoreStmt
+leave_unless e = core.If e [] (core.Break ∷ [])
+
+-- the number behind that of a variable is stored there
+abbrev pub raise : (line : ℕ) → CorePath → CoreStmt
+raise line path = core.Store path (expr.Apply Add (expr.Path path z) (expr.Number (pos 1) z) z 0 line)
+
+-- one round of a `for`: its name gets the next number, which is less than the second bound
+abbrev pub for_round : (line : ℕ) → (name next bound : CorePath) → List CoreStmt → List CoreStmt
+for_round line name next bound body =
+    leave_unless (expr.Compare Less (expr.Path next z) (expr.Path bound z) z)
+    ∷ core.Store name (expr.Path next z)
+    ∷ (body ++ raise line next ∷ [])
+
+-- a `for`, whose bounds are stored once
+abbrev pub for_of : (line : ℕ) → (name next bound : CorePath) → (first end : CoreExpr) → List CoreStmt → List CoreStmt
+for_of line name next bound first end body = core.Store next first ∷ core.Store bound end ∷ core.Loop (for_round line name next bound body) ∷ []
 
 -- a text is printed
 abbrev pub put_text : List ℕ → CoreStmt
@@ -65,24 +92,25 @@ print_of (Some kind.Truth) e = core.If e (put_text (codes "T\n") ∷ []) (put_te
 print_of (Some kind.Number) e = core.Put e ∷ put_text (codes "\n") ∷ []
 print_of None e = core.Put e ∷ put_text (codes "\n") ∷ []
 
--- the core of a statement whose first line has this number, and how many lines it has
+-- the core of a statement that stands in `for`s which have so many variables without names, and whose first line has this number; and
+-- how many lines it has
 pub record Lowered : Type 0 where
   pub count : ℕ
-  pub from : ℕ → List CoreStmt
+  pub from : (taken line : ℕ) → List CoreStmt
 
 -- statements in order, the first from this line on
-abbrev pub in_order : List Lowered → ℕ → List CoreStmt
-in_order [] line = []
-in_order (s ∷ ss) line = s.from line ++ in_order ss (line + s.count)
+abbrev pub in_order : List Lowered → (taken line : ℕ) → List CoreStmt
+in_order [] taken line = []
+in_order (s ∷ ss) taken line = s.from taken line ++ in_order ss taken (line + s.count)
 
 abbrev pub count_of : List Lowered → ℕ
 count_of [] = 0
 count_of (s ∷ ss) = s.count + count_of ss
 
 -- the statements behind `else`, which stands on this line
-abbrev pub in_else : Option (List Lowered) → ℕ → List CoreStmt
-in_else None line = []
-in_else (Some block) line = in_order block (suc line)
+abbrev pub in_else : Option (List Lowered) → (taken line : ℕ) → List CoreStmt
+in_else None taken line = []
+in_else (Some block) taken line = in_order block taken (suc line)
 
 abbrev pub count_of_else : Option (List Lowered) → ℕ
 count_of_else None = 0
@@ -90,16 +118,25 @@ count_of_else (Some block) = suc (count_of block)
 
 -- a statement of one line
 abbrev pub on_line : (ℕ → List CoreStmt) → Lowered
-on_line from = record { count = 1; from = from }
+on_line from = record { count = 1; from = λ taken line. from line }
 
 abbrev pub lowered_step : List Declared → Stmt-F Lowered → Lowered
-lowered_step names (stmt.Declare is_var name type first) = on_line (λ line. core.Store (path_of names name) (right_expr names line first) ∷ [])
-lowered_step names (stmt.Assign name value) = on_line (λ line. core.Store (path_of names name) (right_expr names line value) ∷ [])
+lowered_step names (stmt.Declare is_var name type first) = on_line (λ line. store_right names line (path_of names name) first ∷ [])
+lowered_step names (stmt.Assign name value) = on_line (λ line. store_right names line (path_of names name) value ∷ [])
 lowered_step names (stmt.Print atom) = on_line (λ line. print_of (kind_of_atom names atom) (atom_expr names atom))
 lowered_step names (stmt.PrintText text) = on_line (λ line. put_text (text ++ 10 ∷ []) ∷ [])
 lowered_step names (stmt.If test chosen other) = record {
   count = suc (count_of chosen + count_of_else other + 1);
-  from = λ line. core.If (condition_expr names test) (in_order chosen (suc line)) (in_else other (suc line + count_of chosen)) ∷ [];
+  from = λ taken line. core.If (condition_expr names test) (in_order chosen taken (suc line)) (in_else other taken (suc line + count_of chosen)) ∷ [];
+}
+lowered_step names (stmt.While test body) = record {
+  count = suc (count_of body + 1);
+  from = λ taken line. core.Loop (leave_unless (condition_expr names test) ∷ in_order body taken (suc line)) ∷ [];
+}
+lowered_step names (stmt.Spin test) = on_line (λ line. core.Loop (leave_unless (condition_expr names test) ∷ []) ∷ [])
+lowered_step names (stmt.For name first end body) = record {
+  count = suc (count_of body + 1);
+  from = λ taken line. for_of line (path_of names name) (unnamed names taken) (unnamed names (suc taken)) (atom_expr names first) (atom_expr names end) (in_order body (suc (suc taken)) (suc line));
 }
 lowered_step names (stmt.Assert test) = on_line (λ line. core.If (condition_expr names test) [] (core.Halt assert_halt 0 line ∷ []) ∷ [])
 lowered_step names (stmt.Halt text) = on_line (λ line. core.Halt halt_halt 0 line ∷ [])
@@ -107,15 +144,35 @@ lowered_step names (stmt.Halt text) = on_line (λ line. core.Halt halt_halt 0 li
 unfoldable pub lowered : List Declared → Stmt → Lowered
 lowered names s = fold-Stmt Lowered (lowered_step names) s
 
+abbrev pub unnamed_step : Stmt-F ℕ → ℕ
+unnamed_step (stmt.Declare is_var name type first) = 0
+unnamed_step (stmt.Assign name value) = 0
+unnamed_step (stmt.Print atom) = 0
+unnamed_step (stmt.PrintText text) = 0
+unnamed_step (stmt.If test chosen other) = max (deepest chosen) (deepest_else other)
+unnamed_step (stmt.While test body) = deepest body
+unnamed_step (stmt.Spin test) = 0
+unnamed_step (stmt.For name first end body) = suc (suc (deepest body))
+unnamed_step (stmt.Assert test) = 0
+unnamed_step (stmt.Halt text) = 0
+
+-- how many variables without names the `for`s in a statement need
+unfoldable pub unnamed_in : Stmt → ℕ
+unnamed_in s = fold-Stmt ℕ unnamed_step s
+
+-- and those in a program
+abbrev pub unnamed_of : Plain → ℕ
+unnamed_of program = deepest (map unnamed_in program.body)
+
 -- the statements of `main`
 abbrev pub main_body : Plain → List CoreStmt
 main_body program =
-    in_order (map (lowered (declared program)) program.body) first_body_line
+    in_order (map (lowered (declared program)) program.body) 0 first_body_line
     ++ core.Return (atom_expr (declared program) program.value) ∷ []
 
 -- `NAME.main`
 abbrev pub main_of : Plain → CoreFun
-main_of program = record { name = program.name ++ codes ".main"; result = z; vars = replicate (length (declared program)) z; body = main_body program }
+main_of program = record { name = program.name ++ codes ".main"; result = z; vars = replicate (length (declared program) + unnamed_of program) z; body = main_body program }
 
 -- the function in which a run begins
 abbrev pub start_fun : CoreFun

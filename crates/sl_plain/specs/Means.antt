@@ -1,22 +1,24 @@
 -- What a plain program does, as a run. A variable holds a value from its declaration on. Operands are computed from left to right; an
 -- operation that gives no number of `Z` halts, with its line; `assert` halts where its condition doesn't hold, and `halt` always.
--- `println` prints a number in decimal, a truth value as `T` or `F`, or a text, and then a line feed. The call of `main` takes the
--- one turn of the run, and what it returns is the exit value.
-use Rattle.std.specs.Prelude.{ℕ, suc, ◌+◌, ℤ, List, [], ◌∷◌, ◌++◌, Bool, true, false, Option, None, Some, Result, Ok, Err, map, codes, if◌then◌else◌}
+-- `println` prints a number in decimal, a truth value as `T` or `F`, or a text, and then a line feed. `Port.get()` is the next byte of
+-- the input, or -1 at its end, and asks for it each time. The bounds of a `for` are computed once. A turn is the call of `main`, or one
+-- asking of a loop whether it goes round, the last one included. What `main` returns is the exit value.
+use Rattle.std.specs.Prelude.{ℕ, zero, suc, ◌+◌, ℤ, pos, negsuc, ◌-ℤ◌, List, [], ◌∷◌, ◌++◌, Bool, true, false, Option, None, Some, Result, Ok, Err, map, codes, if◌then◌else◌}
 use Rattle.std.specs.Fmt.{signed_decimal}
 use Rattle.std.specs.Str.{bytes_eq}
 use Rattle.sl_num.specs.declared.arithmetic.Halt.{Halt}
+use Rattle.sl_num.specs.declared.arithmetic.Op.TheVariants.{Add}
 use Rattle.sl_num.specs.declared.comparing.Comparison.{Comparison}
 use Rattle.sl_num.specs.Arithmetic.{applied}
 use Rattle.sl_num.specs.Comparing.{holds}
-use Rattle.sl_run.specs.Run.{Stuck, Act, Over, Went, pure, over, ◌>>=◌, ◌>>◌, choose, put_all, turn}
+use Rattle.sl_run.specs.Run.{Stuck, Act, Over, Went, pure, over, ◌>>=◌, ◌>>◌, choose, put_all, get, turn, loop}
 use Rattle.sl_run.specs.Run as run
 use Rattle.sl_run.specs.Outcome.{Outcome, whole_run}
-use Rattle.sl_core.specs.Meaning.{halt_number}
+use Rattle.sl_core.specs.Meaning.{halt_number, gotten}
 use Rattle.sl_plain.specs.declared.line.Atom.{Atom}
 use Rattle.sl_plain.specs.declared.line.Atom.TheVariants.{Name, Number, Truth}
 use Rattle.sl_plain.specs.declared.line.Right.{Right}
-use Rattle.sl_plain.specs.declared.line.Right.TheVariants.{Just, Compare, Apply}
+use Rattle.sl_plain.specs.declared.line.Right.TheVariants.{Just, Compare, Apply, Get}
 use Rattle.sl_plain.specs.declared.line.Condition.{Condition}
 use Rattle.sl_plain.specs.declared.line.Condition.TheVariants as condition
 use Rattle.sl_plain.specs.declared.tree.Stmt.{Stmt, Stmt-F, fold-Stmt}
@@ -85,6 +87,7 @@ abbrev pub right_value : (line : ℕ) → Right → Act Variables Value
 right_value line (Just atom) = with_value atom pure
 right_value line (Compare by a b) = compare by a b >>= (λ truth. pure (Is truth))
 right_value line (Apply op a b) = with_number a (λ x. with_number b (λ y. result_or_halt line (applied z_type op x y)))
+right_value line Get = get >>= (λ byte. pure (Of (gotten byte)))
 
 -- whether a condition holds
 abbrev pub condition_value : Condition → Act Variables Bool
@@ -107,6 +110,32 @@ print_line bytes = put_all (bytes ++ 10 ∷ [])
 -- a name gets a value
 abbrev pub store : List ℕ → Value → Act Variables (Unit {0})
 store name value t variables = Went tt t (with_held name value variables)
+
+-- a number that isn't negative, and else 0
+abbrev pub natural_of : ℤ → ℕ
+natural_of (pos number) = number
+natural_of (negsuc below) = 0
+
+-- whether a loop is left after an asking that was answered so: with no more to do, or by another round
+abbrev pub round_of : Act Variables (Unit {0}) → Bool → Act Variables (Option (Unit {0}))
+round_of body true = body >> pure None
+round_of body false = pure (Some tt)
+
+-- as long as a condition holds, the body. Each asking takes a turn
+abbrev pub while_holds : Condition → Act Variables (Unit {0}) → Act Variables (Unit {0})
+while_holds test body = loop (condition_value test >>= round_of body)
+
+-- The body for so many numbers from this one on, in their order; the name holds the number. Each asking whether there is one more
+-- takes a turn. The next number is computed as a sum, on the line of the `for`. That halts only where a bound is no number of `Z`
+-- (`next_number` of proofs/Values.antt), which none is that a plain program has
+abbrev pub for_numbers : (line : ℕ) → List ℕ → (from : ℤ) (count : ℕ) → Act Variables (Unit {0}) → Act Variables (Unit {0})
+for_numbers line name from zero body = turn
+for_numbers line name from (suc count) body =
+    turn >> store name (Of from) >> body >> result_or_halt line (applied z_type Add from (pos 1)) >>= with_number_of (λ next. for_numbers line name next count body)
+
+-- how many numbers there are from the first up to the second, without it
+abbrev pub count_until : ℤ → ℤ → ℕ
+count_until first end = natural_of (end -ℤ first)
 
 -- the kinds of halts: an `assert` that doesn't hold, and `halt`
 abbrev pub assert_halt : ℕ
@@ -151,6 +180,15 @@ meaning_step (stmt.PrintText text) = on_line (λ line. print_line text)
 meaning_step (stmt.If test chosen other) = record {
   count = suc (count_of chosen + count_of_else other + 1);
   from = λ line. condition_value test >>= (λ so. choose so (in_order chosen (suc line)) (in_else other (suc line + count_of chosen)));
+}
+meaning_step (stmt.While test body) = record {
+  count = suc (count_of body + 1);
+  from = λ line. while_holds test (in_order body (suc line));
+}
+meaning_step (stmt.Spin test) = on_line (λ line. while_holds test (pure tt))
+meaning_step (stmt.For name first end body) = record {
+  count = suc (count_of body + 1);
+  from = λ line. with_number first (λ a. with_number end (λ b. for_numbers line name a (count_until a b) (in_order body (suc line))));
 }
 meaning_step (stmt.Assert test) = on_line (λ line. condition_value test >>= (λ so. choose so (pure tt) (over (run.Halt assert_halt 0 line))))
 meaning_step (stmt.Halt text) = on_line (λ line. over (run.Halt halt_halt 0 line))

@@ -33,9 +33,9 @@ Declares entries old new = (before : List Declared) → AreNumbered before old �
 abbrev pub IsBy : {A : Type 0} → Variables → (List Declared → A) → A → Type 0
 IsBy variables part low = (names : List Declared) → AreNumbered names variables → low ≡ part names
 
--- what was lowered from this line on
-abbrev pub IsLoweredTo : Lowered → (line : ℕ) → List CoreStmt → (behind : ℕ) → Type 0
-IsLoweredTo part line stmts behind = (stmts ≡ part.from line) × (behind ≡ line + part.count)
+-- what was lowered from this line on, in `for`s with so many variables without names
+abbrev pub IsLoweredTo : Lowered → (taken line : ℕ) → List CoreStmt → (behind : ℕ) → Type 0
+IsLoweredTo part taken line stmts behind = (stmts ≡ part.from taken line) × (behind ≡ line + part.count)
 
 -- statements as one
 abbrev pub lowered_all : List Declared → List Stmt → Lowered

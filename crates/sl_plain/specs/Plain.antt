@@ -11,8 +11,9 @@
 --   }
 --
 -- NAME is an ASCII capital, then ASCII letters or digits, and no reserved name. What the lines of the body are Lines.antt says. An
--- `if` is ended by its `}`, with or without an `else` between them, and at most 16 stand in one another. A name is declared once in
--- the file, and used only behind its declaration in the same block or in blocks in that. Only a `var` is assigned. Types fit.
+-- `if`, a `while` and a `for` are ended by their `}`, an `if` with or without an `else` between them, and at most 16 stand in one
+-- another. A name is declared once in the file, and used only behind its declaration in the same block or in blocks in that; the name
+-- of a `for` is declared at the beginning of its block. Only a `var` is assigned. Types fit.
 use Rattle.std.specs.Prelude.{◌≡◌, ◌⊎◌, ℕ, suc, ◌≤◌, List, [], ◌∷◌, ◌++◌, Bool, true, false, ◌&&◌, Option, None, Some, is_some, max, map, replicate, All, Contains, codes, if◌then◌else◌}
 use Rattle.std.specs.List.{flat_map, fold, IsDistinct}
 use Rattle.std.specs.Str.{bytes_eq}
@@ -22,7 +23,7 @@ use Rattle.sl_plain.specs.declared.line.Kind.TheVariants as kind
 use Rattle.sl_plain.specs.declared.line.Atom.{Atom}
 use Rattle.sl_plain.specs.declared.line.Atom.TheVariants.{Name, Number, Truth}
 use Rattle.sl_plain.specs.declared.line.Right.{Right}
-use Rattle.sl_plain.specs.declared.line.Right.TheVariants.{Just, Compare, Apply}
+use Rattle.sl_plain.specs.declared.line.Right.TheVariants.{Just, Compare, Apply, Get}
 use Rattle.sl_plain.specs.declared.line.Condition.{Condition}
 use Rattle.sl_plain.specs.declared.line.Condition.TheVariants as condition
 use Rattle.sl_plain.specs.declared.line.Line.{Line}
@@ -49,6 +50,9 @@ lines_step (stmt.Assign name value) = line.Assign name value ∷ []
 lines_step (stmt.Print atom) = line.Print atom ∷ []
 lines_step (stmt.PrintText text) = line.PrintText text ∷ []
 lines_step (stmt.If test chosen other) = line.If test ∷ joined chosen ++ else_lines other ++ line.Close ∷ []
+lines_step (stmt.While test body) = line.While test ∷ joined body ++ line.Close ∷ []
+lines_step (stmt.Spin test) = line.Spin test ∷ []
+lines_step (stmt.For name first end body) = line.For name first end ∷ joined body ++ line.Close ∷ []
 lines_step (stmt.Assert test) = line.Assert test ∷ []
 lines_step (stmt.Halt text) = line.Halt text ∷ []
 
@@ -60,7 +64,7 @@ lines_of_stmt s = fold-Stmt (List Line) lines_step s
 abbrev pub body_lines : Plain → List Line
 body_lines program = flat_map lines_of_stmt program.body ++ line.Return program.value ∷ []
 
--- how deep `if`s stand in one another
+-- how deep statements with blocks stand in one another
 abbrev pub deepest : List ℕ → ℕ
 deepest depths = fold max 0 depths
 
@@ -74,6 +78,9 @@ depth_step (stmt.Assign name value) = 0
 depth_step (stmt.Print atom) = 0
 depth_step (stmt.PrintText text) = 0
 depth_step (stmt.If test chosen other) = suc (max (deepest chosen) (deepest_else other))
+depth_step (stmt.While test body) = suc (deepest body)
+depth_step (stmt.Spin test) = 0
+depth_step (stmt.For name first end body) = suc (deepest body)
 depth_step (stmt.Assert test) = 0
 depth_step (stmt.Halt text) = 0
 
@@ -87,6 +94,10 @@ pub record Declared : Type 0 where
   pub name : List ℕ
   pub is_var : Bool
   pub type : Kind
+
+-- the name of a `for`: a number that isn't assigned
+abbrev pub counted : List ℕ → Declared
+counted name = record { name = name; is_var = false; type = kind.Number }
 
 -- the declaration of a name among these
 abbrev pub declaration : List Declared → List ℕ → Option Declared
@@ -119,6 +130,7 @@ abbrev pub right_fits : List Declared → Kind → Right → Bool
 right_fits scope type (Just atom) = has_kind type (kind_of_atom scope atom)
 right_fits scope type (Compare by a b) = same_kind type kind.Truth && are_numbers scope a b
 right_fits scope type (Apply op a b) = same_kind type kind.Number && are_numbers scope a b
+right_fits scope type Get = same_kind type kind.Number
 
 -- whether a condition is one
 abbrev pub condition_fits : List Declared → Condition → Bool
@@ -157,6 +169,9 @@ scoped_step (stmt.Assign name value) scope = where_so (assigned_fits scope (decl
 scoped_step (stmt.Print atom) scope = where_so (is_some (kind_of_atom scope atom)) scope
 scoped_step (stmt.PrintText text) scope = Some scope
 scoped_step (stmt.If test chosen other) scope = where_so (condition_fits scope test && block_fits chosen scope && else_fits other scope) scope
+scoped_step (stmt.While test body) scope = where_so (condition_fits scope test && block_fits body scope) scope
+scoped_step (stmt.Spin test) scope = where_so (condition_fits scope test) scope
+scoped_step (stmt.For name first end body) scope = where_so (are_numbers scope first end && block_fits body (counted name ∷ scope)) scope
 scoped_step (stmt.Assert test) scope = where_so (condition_fits scope test) scope
 scoped_step (stmt.Halt text) scope = Some scope
 
@@ -175,6 +190,9 @@ declared_step (stmt.Assign name value) = []
 declared_step (stmt.Print atom) = []
 declared_step (stmt.PrintText text) = []
 declared_step (stmt.If test chosen other) = joined chosen ++ declared_else other
+declared_step (stmt.While test body) = joined body
+declared_step (stmt.Spin test) = []
+declared_step (stmt.For name first end body) = counted name ∷ joined body
 declared_step (stmt.Assert test) = []
 declared_step (stmt.Halt text) = []
 

@@ -7,12 +7,13 @@ use Rattle.std.specs.Ordering.{nat_cmp}
 use Rattle.std.specs.Cmp.Lexicographic.{slice_cmp}
 use Rattle.std.specs.Char.{is_ascii_uppercase, is_ascii_alphanumeric}
 use Rattle.sl_plain.specs.declared.line.Atom.{Atom}
-use Rattle.sl_plain.specs.declared.line.Condition.{Condition}
 use Rattle.sl_plain.specs.declared.line.Line.{Line}
 use Rattle.sl_plain.specs.declared.line.Line.TheVariants as line
 use Rattle.sl_plain.specs.declared.tree.Stmt.{Stmt}
 use Rattle.sl_plain.specs.declared.tree.Stmt.TheVariants as stmt
 use Rattle.sl_plain.specs.declared.tree.Plain.{Plain}
+use Rattle.sl_plain.specs.declared.plain_file.blocks.Opening.{Opening}
+use Rattle.sl_plain.specs.declared.plain_file.blocks.Opening.TheVariants as opening
 use Rattle.sl_plain.specs.declared.plain_file.blocks.Unended.{Unended}
 use Rattle.sl_plain.specs.declared.plain_file.blocks.Stack.{Stack}
 use Rattle.sl_plain.specs.declared.plain_file.scopes.Entry.{Entry}
@@ -60,7 +61,7 @@ is_end _ = false
 abbrev pub indented_line_of : List ℕ → Option Line
 indented_line_of bytes = line_of (drop (prefix_len (λ byte. byte == 32) bytes) bytes)
 
--- what is read so far: the `if`s whose ends aren't read yet, the last one first, and the statements of the last block
+-- what is read so far: the blocks around the last one, whose ends aren't read yet, the last of them first, and the statements of the last block
 pub record Blocks : Type 0 where
   pub opened : List Unended
   pub block : List Stmt
@@ -76,29 +77,33 @@ blocks_of stack = record { opened = reverse stack.opened; block = stack.block }
 abbrev pub with_stmt : Stmt → Blocks → Option Blocks
 with_stmt s blocks = Some (record blocks { block = blocks.block ++ s ∷ [] })
 
--- an `if` begins, where fewer than 16 stand in one another
-abbrev pub with_if : Condition → Blocks → Option Blocks
-with_if test blocks =
-    then_some (nat_lt (length blocks.opened) 16) (record { opened = record { before = blocks.block; test = test; chosen = None } ∷ blocks.opened; block = [] })
+-- a block begins, where fewer than 16 stand in one another
+abbrev pub with_opening : Opening → Blocks → Option Blocks
+with_opening opening blocks =
+    then_some (nat_lt (length blocks.opened) 16) (record { opened = record { before = blocks.block; opening = opening } ∷ blocks.opened; block = [] })
 
--- its `else` begins, where it has none yet
-abbrev pub with_else_of : Unended → Option (List Stmt) → List Unended → List Stmt → Option Blocks
-with_else_of last None opened block = Some (record { opened = record last { chosen = Some block } ∷ opened; block = [] })
-with_else_of last (Some chosen) opened block = None
+-- an `else` begins, behind the first block of an `if`
+abbrev pub with_else_of : Unended → Opening → List Unended → List Stmt → Option Blocks
+with_else_of last (opening.If test) opened block = Some (record { opened = record last { opening = opening.Else test block } ∷ opened; block = [] })
+with_else_of last (opening.Else test chosen) opened block = None
+with_else_of last (opening.While test) opened block = None
+with_else_of last (opening.For name first end) opened block = None
 
 abbrev pub with_else : List Unended → List Stmt → Option Blocks
 with_else [] block = None
-with_else (last ∷ opened) block = with_else_of last last.chosen opened block
+with_else (last ∷ opened) block = with_else_of last last.opening opened block
 
--- the statement of an `if` whose last block this is
-abbrev pub if_of : Condition → Option (List Stmt) → List Stmt → Stmt
-if_of test None block = stmt.If test block None
-if_of test (Some chosen) block = stmt.If test chosen (Some block)
+-- the statement whose last block this is
+abbrev pub stmt_of : Opening → List Stmt → Stmt
+stmt_of (opening.If test) block = stmt.If test block None
+stmt_of (opening.Else test chosen) block = stmt.If test chosen (Some block)
+stmt_of (opening.While test) block = stmt.While test block
+stmt_of (opening.For name first end) block = stmt.For name first end block
 
 -- it ends
 abbrev pub with_close : List Unended → List Stmt → Option Blocks
 with_close [] block = None
-with_close (last ∷ opened) block = Some (record { opened = opened; block = last.before ++ if_of last.test last.chosen block ∷ [] })
+with_close (last ∷ opened) block = Some (record { opened = opened; block = last.before ++ stmt_of last.opening block ∷ [] })
 
 -- one more line, that isn't a return
 abbrev pub with_line : Line → Blocks → Option Blocks
@@ -106,7 +111,10 @@ with_line (line.Declare is_var name type first) blocks = with_stmt (stmt.Declare
 with_line (line.Assign name value) blocks = with_stmt (stmt.Assign name value) blocks
 with_line (line.Print atom) blocks = with_stmt (stmt.Print atom) blocks
 with_line (line.PrintText text) blocks = with_stmt (stmt.PrintText text) blocks
-with_line (line.If test) blocks = with_if test blocks
+with_line (line.If test) blocks = with_opening (opening.If test) blocks
+with_line (line.While test) blocks = with_opening (opening.While test) blocks
+with_line (line.Spin test) blocks = with_stmt (stmt.Spin test) blocks
+with_line (line.For name first end) blocks = with_opening (opening.For name first end) blocks
 with_line line.Else blocks = with_else blocks.opened blocks.block
 with_line line.Close blocks = with_close blocks.opened blocks.block
 with_line (line.Assert test) blocks = with_stmt (stmt.Assert test) blocks
@@ -118,7 +126,7 @@ abbrev pub returned : Line → Option Atom
 returned (line.Return atom) = Some atom
 returned other = None
 
--- the statements, where no `if` is unended
+-- the statements, where no block is unended
 abbrev pub finished : List Unended → List Stmt → Option (List Stmt)
 finished [] block = Some block
 finished (last ∷ opened) block = None

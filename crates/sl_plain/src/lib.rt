@@ -1,4 +1,4 @@
-//! Plain files: their lines, the reader of one line, and the core of a program.
+//! Plain files: the reader of one line, the reader of a whole file, and the core of its program.
 #![tactic(auto)]
 
 mod line;
@@ -12,6 +12,3 @@ pub use lowering::lower;
 pub use plain_file::read_plain;
 pub use reading::{indentation, read_line};
 pub use tree::{Plain, Stmt};
-
-#[cfg(test)]
-mod tests;

@@ -23,6 +23,8 @@ pub enum Right {
     Just(Atom),
     Compare(Comparison, Atom, Atom),
     Apply(Op, Atom, Atom),
+    /// `Port.get()`: the next byte of the input, or -1 at its end.
+    Get,
 }
 
 /// What is tested.
@@ -41,6 +43,12 @@ pub enum Line {
     Print(Atom),
     PrintText(Row<u8>),
     If(Condition),
+    /// `while (..) {`
+    While(Condition),
+    /// `while (..) {}`
+    Spin(Condition),
+    /// `for (NAME <- FIRST until END) {`
+    For(Row<u8>, Atom, Atom),
     Else,
     Close,
     Assert(Condition),

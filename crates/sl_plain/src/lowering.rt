@@ -1,10 +1,12 @@
 //! The core of a plain program.
 mod declarations;
 mod expressions;
+mod loops;
 mod numbers;
 mod statements;
+mod unnamed;
 
-ghost use Rattle.std.specs.Prelude.{◌≡◌, ◌++◌, ℕ, List, IfOk, codes, replicate};
+ghost use Rattle.std.specs.Prelude.{◌≡◌, ◌+◌, ◌++◌, ℕ, List, IfOk, codes, replicate};
 ghost use Rattle.sl_core.specs.declared.tree.CoreType.TheVariants.{Int};
 ghost use Rattle.sl_core.specs.Meaning.{core_run};
 ghost use Rattle.sl_core.specs.Sound.{IsSound};
@@ -12,22 +14,24 @@ ghost use Rattle.sl_plain.specs.Plain.{IsProgram};
 ghost use Rattle.sl_plain.specs.Means.{plain_run};
 ghost use Rattle.sl_plain.specs.Reach.{IsInReach};
 ghost use Rattle.sl_plain.specs.Numbers.{z_type};
-ghost use Rattle.sl_plain.specs.Lowered.{variable, main_of, start_fun, core_of};
+ghost use Rattle.sl_plain.specs.Lowered.{main_of, start_fun, core_of};
 
 use crate::tree::Plain;
 use declarations::declare_block;
-use expressions::{Z, lower_atom};
+use expressions::{Z, lower_atom, variable};
 use numbers::Variables;
-use sl_core::{Core, CoreExpr, CoreFun, CorePath, CoreRoot, CoreStmt, CoreType};
+use sl_core::{Core, CoreExpr, CoreFun, CoreStmt, CoreType};
 use sl_num::IntType;
 use sl_text::{Mem, Row, Text};
 use statements::lower_block;
 use std::alloc::Global;
+use unnamed::count_unnamed;
 
 /// The line on which a body begins.
 const FIRST_BODY_LINE: u32 = 5;
 
-/// The core of a plain program: it does what the program does, and is sound. There is none where its names or its lines have no numbers of 32 bits.
+/// The core of a plain program. Of a program that a plain file may hold it does what that does, and where its variables and lines
+/// have numbers of 32 bits it is sound.
 pub fn lower(alloc: Global, program: &Plain) -> Result<Core, Mem>
     ensures value { IfOk result (λ core. core ≡ core_of program.now) }
     ensures means { IfOk result (λ core. IsProgram program.now → (input : List ℕ) (turns : ℕ) → core_run core input turns ≡ plain_run program.now input turns) }
@@ -62,15 +66,32 @@ fn lower_main(alloc: Global, program: &Plain) -> Result<CoreFun, Mem>
 {
     let mut variables = Variables::new(alloc);
     declare_block(alloc, &mut variables, program.body.as_slice())?;
-    let block = lower_block(alloc, &variables, program.body.as_slice(), FIRST_BODY_LINE)?;
+    let count = all_count(&variables, count_unnamed(program.body.as_slice())?)?;
+    let block = lower_block(
+        alloc,
+        &variables,
+        program.body.as_slice(),
+        0,
+        FIRST_BODY_LINE,
+    )?;
     let mut body = block.stmts;
     body.push(CoreStmt::Return(lower_atom(&variables, &program.value)))?;
     Ok(CoreFun {
         name: main_name(alloc, program.name.as_slice())?,
         result: Z,
-        vars: zeros(alloc, variables.count())?,
+        vars: zeros(alloc, count)?,
         body,
     })
+}
+
+/// How many variables there are, with and without names. There are too many if that has no number.
+fn all_count(variables: &Variables, unnamed: u32) -> Result<u32, Mem>
+    ensures { IfOk result (λ count. count ≡ variables.now.count + unnamed) }
+{
+    match variables.count().checked_add(unnamed) {
+        Some(count) => Ok(count),
+        None => Err(Mem),
+    }
 }
 
 /// The name of `NAME.main`. Names of programs are ASCII, so that they are texts.
@@ -96,20 +117,12 @@ fn start_fun(alloc: Global) -> Result<CoreFun, Mem>
     ensures { IfOk result (λ function. function ≡ start_fun) }
 {
     let mut body = Row::new(alloc);
-    body.push(CoreStmt::Call(Some(first_variable()), 0))?;
-    body.push(CoreStmt::Return(CoreExpr::Path(first_variable(), Z)))?;
+    body.push(CoreStmt::Call(Some(variable(0)), 0))?;
+    body.push(CoreStmt::Return(CoreExpr::Path(variable(0), Z)))?;
     Ok(CoreFun {
         name: Text::from_str(alloc, "start")?,
         result: Z,
         vars: zeros(alloc, 1)?,
         body,
     })
-}
-
-fn first_variable() -> CorePath
-    ensures { result ≡ variable 0 }
-{
-    CorePath {
-        root: CoreRoot::Var(0),
-    }
 }

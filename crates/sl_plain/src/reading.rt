@@ -1,7 +1,7 @@
 // How one line is read: the word at its front says which form it has, if any.
 ghost use Rattle.std.specs.Prelude.{◌≡◌, ◌≢◌, [], ◌∷◌, ◌++◌, ℕ, List, Some, None, IfOk, IfSome, IfNone, replicate, option_and_then};
 ghost use Rattle.sl_plain.specs.Lines.{spelled, IsLine};
-ghost use Rattle.sl_plain.specs.LineReading.{between, condition_in, front_of, line_with, declaration_of, cut_kind, print_of, closing_of, assignment_of};
+ghost use Rattle.sl_plain.specs.LineReading.{between, condition_in, front_of, line_with, declaration_of, cut_kind, print_of, while_of, for_of, counting_of, closing_of, assignment_of};
 ghost use Rattle.sl_plain.specs.PlainReading.{indented_line_of};
 
 mod atoms;
@@ -15,7 +15,7 @@ use crate::reading::atoms::read_atom;
 pub use crate::reading::names::is_alphanumeric;
 use crate::reading::names::{is_name, quoted_in};
 pub use crate::reading::parts::between;
-use crate::reading::parts::{cut_word, space_len};
+use crate::reading::parts::{cut_at_space, cut_word, space_len};
 use crate::reading::rights::{read_condition, read_right};
 use crate::reading::words::{Front, front_of};
 use sl_text::{Mem, Row};
@@ -58,6 +58,8 @@ fn read_behind(alloc: Global, word: &[u8], rest: &[u8]) -> Result<Option<Line>, 
         Front::Var => read_declaration(alloc, true, rest),
         Front::Println => read_print(alloc, rest),
         Front::If => Ok(read_test(alloc, b" (", b") {", rest)?.map(Line::If)),
+        Front::While => read_while(alloc, rest),
+        Front::For => read_for(alloc, rest),
         Front::Assert => Ok(read_test(alloc, b"(", b")", rest)?.map(Line::Assert)),
         Front::Halt => read_halt(alloc, rest),
         Front::Return => read_return(alloc, rest),
@@ -124,6 +126,52 @@ fn read_test(alloc: Global, front: &[u8], end: &[u8], rest: &[u8]) -> Result<Opt
         Some(test) => read_condition(alloc, test),
         None => Ok(None),
     }
+}
+
+/// What stands behind `while`: a condition and the front of a block, or a condition and a block with nothing in it.
+fn read_while(alloc: Global, rest: &[u8]) -> Result<Option<Line>, Mem>
+    ensures { IfOk result (λ found. found ≡ while_of rest.now) }
+{
+    if let Some(test) = read_test(alloc, b" (", b") {", rest)? {
+        return Ok(Some(Line::While(test)));
+    }
+    Ok(read_test(alloc, b" (", b") {}", rest)?.map(Line::Spin))
+}
+
+/// What stands behind `for`.
+fn read_for(alloc: Global, rest: &[u8]) -> Result<Option<Line>, Mem>
+    ensures { IfOk result (λ found. found ≡ for_of rest.now) }
+{
+    match between(b" (", b") {", rest) {
+        Some(counting) => read_counting(alloc, counting),
+        None => Ok(None),
+    }
+}
+
+/// The name of a `for` and its bounds.
+fn read_counting(alloc: Global, bytes: &[u8]) -> Result<Option<Line>, Mem>
+    ensures { IfOk result (λ found. found ≡ counting_of bytes.now) }
+{
+    let (name, bounds) = cut_word(bytes);
+    if !is_name(name) {
+        return Ok(None);
+    }
+    let Some(bounds) = between(b" <- ", b"", bounds) else {
+        return Ok(None);
+    };
+    let Some((first, end)) = cut_at_space(bounds) else {
+        return Ok(None);
+    };
+    let Some(end) = between(b"until ", b"", end) else {
+        return Ok(None);
+    };
+    let Some(first) = read_atom(alloc, first)? else {
+        return Ok(None);
+    };
+    let Some(end) = read_atom(alloc, end)? else {
+        return Ok(None);
+    };
+    Ok(Some(Line::For(Row::from_slice(alloc, name)?, first, end)))
 }
 
 /// What stands behind `halt`.

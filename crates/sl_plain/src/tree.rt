@@ -12,6 +12,12 @@ pub enum Stmt {
     PrintText(Row<u8>),
     /// The first statements where the condition holds, and else the second ones, if there is an `else`.
     If(Condition, Row<Stmt>, Option<Row<Stmt>>),
+    /// The statements, as long as the condition holds.
+    While(Condition, Row<Stmt>),
+    /// `while` with nothing in it, on one line.
+    Spin(Condition),
+    /// The statements for each number from the first bound up to the second, without it: the name of the number, and the bounds.
+    For(Row<u8>, Atom, Atom, Row<Stmt>),
     Assert(Condition),
     Halt(Row<u8>),
 }

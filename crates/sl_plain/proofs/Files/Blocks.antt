@@ -10,10 +10,12 @@ use Rattle.sl_plain.specs.declared.line.Line.TheVariants as line
 use Rattle.sl_plain.specs.declared.tree.Stmt.{Stmt, Stmt-F, ind-Stmt, map-Stmt, roll-Stmt}
 use Rattle.sl_plain.specs.declared.tree.Stmt.TheOpen as open_stmt
 use Rattle.sl_plain.specs.declared.tree.Stmt.TheVariants as stmt
+use Rattle.sl_plain.specs.declared.plain_file.blocks.Opening.{Opening}
+use Rattle.sl_plain.specs.declared.plain_file.blocks.Opening.TheVariants as opening
 use Rattle.sl_plain.specs.declared.plain_file.blocks.Unended.{Unended}
 use Rattle.sl_plain.specs.Lines.{IsLine, spelled}
 use Rattle.sl_plain.specs.Plain.{joined, lines_step, lines_of_stmt, deepest, depth_step, depth, indented}
-use Rattle.sl_plain.specs.PlainReading.{Blocks, if_of, is_end, ending, with_line, indented_line_of, body_from}
+use Rattle.sl_plain.specs.PlainReading.{Blocks, stmt_of, is_end, ending, with_opening, with_line, indented_line_of, body_from}
 use Rattle.sl_plain.proofs.Layers.{lines_layer, depth_layer}
 use Rattle.sl_plain.proofs.Files.Layers.{lines_of_stmts, Fits, fits_deepest}
 use Rattle.sl_plain.proofs.Files.Ends.{end_lines, no_end}
@@ -40,35 +42,43 @@ at_block opened block = record { opened = opened; block = block }
 abbrev AreReadIn : ℕ → List Line → List Stmt → Type 0
 AreReadIn n lines stmts = (opened : List Unended) → length opened ≡ n → feed lines (at_block opened []) ≡ Some (at_block opened stmts)
 
--- an `if` begins
-abbrev begun : Condition → List Unended → List Stmt → List Unended
-begun test opened block = record { before = block; test = test; chosen = None } ∷ opened
+-- a block begins
+abbrev begun_at : Opening → List Unended → List Stmt → List Unended
+begun_at begun opened block = record { before = block; opening = begun } ∷ opened
 
-begins : (lines : List Line) (test : Condition) (opened : List Unended) (block : List Stmt) → suc (length opened) ≤ 16 → feed (line.If test ∷ lines) (at_block opened block) ≡ feed lines (at_block (begun test opened block) [])
-begins lines test opened block le =
+begins : (l : Line) (begun : Opening) → ((blocks : Blocks) → with_line l blocks ≡ with_opening begun blocks) → (lines : List Line) (opened : List Unended) (block : List Stmt) → suc (length opened) ≤ 16
+    → feed (l ∷ lines) (at_block opened block) ≡ feed lines (at_block (begun_at begun opened block) [])
+begins l begun is lines opened block le =
     let less : nat_lt (length opened) 16 ≡ true = lt-ltb (length opened) 16 (omega arith)
-    in ap (λ t. option_and_then (feed lines) (then_some t (at_block (begun test opened block) []))) less
+    in ap (option_and_then (feed lines)) (is (at_block opened block)) ∙ ap (λ t. option_and_then (feed lines) (then_some t (at_block (begun_at begun opened block) []))) less
+
+-- a statement of one block
+block_there : (l : Line) (begun : Opening) → ((blocks : Blocks) → with_line l blocks ≡ with_opening begun blocks) → (opened : List Unended) (block : List Stmt) (lines : List Line) (body : List Stmt)
+    → suc (length opened) ≤ 16 → AreReadIn (suc (length opened)) lines body
+    → feed (l ∷ lines ++ line.Close ∷ []) (at_block opened block) ≡ Some (at_block opened (block ++ stmt_of begun body ∷ []))
+block_there l begun is opened block lines body le read =
+    begins l begun is (lines ++ line.Close ∷ []) opened block le
+    ∙ feed_append lines (line.Close ∷ []) (at_block (begun_at begun opened block) []) (at_block (begun_at begun opened block) body) (read (begun_at begun opened block) refl)
 
 -- an `if` without an `else`
 if_read : (opened : List Unended) (block : List Stmt) (test : Condition) (lines : List Line) (chosen : List Stmt) → suc (length opened) ≤ 16 → AreReadIn (suc (length opened)) lines chosen
-    → feed (line.If test ∷ lines ++ [] ++ line.Close ∷ []) (at_block opened block) ≡ Some (at_block opened (block ++ if_of test None chosen ∷ []))
+    → feed (line.If test ∷ lines ++ [] ++ line.Close ∷ []) (at_block opened block) ≡ Some (at_block opened (block ++ stmt.If test chosen None ∷ []))
 if_read opened block test lines chosen le read =
-    begins (lines ++ [] ++ line.Close ∷ []) test opened block le
-    ∙ ap (λ ls. feed (ls ++ line.Close ∷ []) (at_block (begun test opened block) [])) (append-nil lines)
-    ∙ feed_append lines (line.Close ∷ []) (at_block (begun test opened block) []) (at_block (begun test opened block) chosen) (read (begun test opened block) refl)
+    ap (λ ls. feed (line.If test ∷ ls ++ line.Close ∷ []) (at_block opened block)) (append-nil lines)
+    ∙ block_there (line.If test) (opening.If test) (λ blocks. refl) opened block lines chosen le read
 
 -- an `if` with an `else`
 if_else_read : (opened : List Unended) (block : List Stmt) (test : Condition) (lines others : List Line) (chosen other : List Stmt) → suc (length opened) ≤ 16 → AreReadIn (suc (length opened)) lines chosen → AreReadIn (suc (length opened)) others other
-    → feed (line.If test ∷ lines ++ (line.Else ∷ others) ++ line.Close ∷ []) (at_block opened block) ≡ Some (at_block opened (block ++ if_of test (Some chosen) other ∷ []))
+    → feed (line.If test ∷ lines ++ (line.Else ∷ others) ++ line.Close ∷ []) (at_block opened block) ≡ Some (at_block opened (block ++ stmt.If test chosen (Some other) ∷ []))
 if_else_read opened block test lines others chosen other le read then =
-    let inner = begun test opened block in
-    let second = record { before = block; test = test; chosen = Some chosen } ∷ opened in
-    begins (lines ++ (line.Else ∷ others) ++ line.Close ∷ []) test opened block le
+    let inner = begun_at (opening.If test) opened block in
+    let second = begun_at (opening.Else test chosen) opened block in
+    begins (line.If test) (opening.If test) (λ blocks. refl) (lines ++ (line.Else ∷ others) ++ line.Close ∷ []) opened block le
     ∙ ap (λ ls. feed ls (at_block inner [])) (append_assoc lines (line.Else ∷ others) (line.Close ∷ []))
     ∙ feed_append lines (line.Else ∷ others ++ line.Close ∷ []) (at_block inner []) (at_block inner chosen) (read inner refl)
     ∙ feed_append others (line.Close ∷ []) (at_block second []) (at_block second other) (then second refl)
 
--- the lines of a statement that fits below the `if`s around it are read as this statement
+-- the lines of a statement that fits below the blocks around it are read as this statement
 abbrev Claim : Stmt → Type 0
 Claim s = (opened : List Unended) (block : List Stmt) → depth s + length opened ≤ 16 → feed (lines_of_stmt s) (at_block opened block) ≡ Some (at_block opened (block ++ s ∷ []))
 
@@ -88,7 +98,7 @@ block_read (k ∷ ks) opened block le =
 
 inner_read : (n : ℕ) (ks : List Known) → deepest (map depth (map first ks)) + n ≤ 16 → AreReadIn n (joined (map lines_of_stmt (map first ks))) (map first ks)
 inner_read n ks le opened e =
-    block_read ks opened [] (fits_deepest (length opened) 0 (map depth (map first ks)) (subst (λ m. deepest (map depth (map first ks)) + m ≤ 16) (sym e) le))
+    block_read ks opened [] (fits_deepest (length opened) (map depth (map first ks)) (subst (λ m. deepest (map depth (map first ks)) + m ≤ 16) (sym e) le))
 
 claim : (s : Stmt) → Claim s
 claim s = ind-Stmt Claim (λ x y same. subst (λ z. Claim (roll-Stmt z)) same (layer y)) s
@@ -114,6 +124,13 @@ claim s = ind-Stmt Claim (λ x y same. subst (λ z. Claim (roll-Stmt z)) same (l
         let m = deepest (map depth (map first other)) in
         if_else_read opened block test (joined (map lines_of_stmt (map first chosen))) (joined (map lines_of_stmt (map first other))) (map first chosen) (map first other)
         (omega arith) (inner_read (suc (length opened)) chosen (omega arith)) (inner_read (suc (length opened)) other (omega arith)))
+    layer (open_stmt.While test body) = via (open_stmt.While test (map first body)) (stmt.While test (map first body)) (stmt.rolls-While test (map first body)) (λ opened block le.
+        let n = deepest (map depth (map first body)) in
+        block_there (line.While test) (opening.While test) (λ blocks. refl) opened block (joined (map lines_of_stmt (map first body))) (map first body) (omega arith) (inner_read (suc (length opened)) body (omega arith)))
+    layer (open_stmt.Spin test) = via (open_stmt.Spin test) (stmt.Spin test) (stmt.rolls-Spin test) (λ opened block le. refl)
+    layer (open_stmt.For name from end body) = via (open_stmt.For name from end (map first body)) (stmt.For name from end (map first body)) (stmt.rolls-For name from end (map first body)) (λ opened block le.
+        let n = deepest (map depth (map first body)) in
+        block_there (line.For name from end) (opening.For name from end) (λ blocks. refl) opened block (joined (map lines_of_stmt (map first body))) (map first body) (omega arith) (inner_read (suc (length opened)) body (omega arith)))
     layer (open_stmt.Assert test) = via (open_stmt.Assert test) (stmt.Assert test) (stmt.rolls-Assert test) (λ opened block le. refl)
     layer (open_stmt.Halt text) = via (open_stmt.Halt text) (stmt.Halt text) (stmt.rolls-Halt text) (λ opened block le. refl)
 

@@ -54,4 +54,16 @@ if_else_names test chosen other =
     ∙ ap (map name_of) (ap₂ (λ a b. a ++ b) (joined_declared chosen) (joined_declared other))
     ∙ map-append name_of (flat_map declared_in chosen) (flat_map declared_in other)
 
-pub ruleset names_rules = (declare_names, assign_names, print_names, text_names, assert_names, halt_names, if_names, if_else_names, append-nil, append_assoc)
+pub while_names : (test : Condition) (body : List Stmt) → names_in (stmt.While test body) ≡ names_of body
+while_names test body =
+    ap names_in (sym (stmt.rolls-While test body)) ∙ ap (map name_of) (declared_layer (open_stmt.While test body)) ∙ ap (map name_of) (joined_declared body)
+
+pub spin_names : (test : Condition) → names_in (stmt.Spin test) ≡ []
+spin_names test = ap names_in (sym (stmt.rolls-Spin test)) ∙ ap (map name_of) (declared_layer (open_stmt.Spin test))
+
+pub for_names : (name : List ℕ) (first end : Atom) (body : List Stmt) → names_in (stmt.For name first end body) ≡ name ∷ names_of body
+for_names name first end body =
+    ap names_in (sym (stmt.rolls-For name first end body)) ∙ ap (map name_of) (declared_layer (open_stmt.For name first end body))
+    ∙ ap (λ rest. name ∷ map name_of rest) (joined_declared body)
+
+pub ruleset names_rules = (declare_names, assign_names, print_names, text_names, assert_names, halt_names, if_names, if_else_names, while_names, spin_names, for_names, append-nil, append_assoc)

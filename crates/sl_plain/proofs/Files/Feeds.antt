@@ -17,11 +17,11 @@ use Rattle.sl_plain.specs.declared.line.Kind.TheVariants as kind
 use Rattle.sl_plain.specs.declared.line.Atom.{Atom}
 use Rattle.sl_plain.specs.declared.line.Atom.TheVariants.{Name, Number, Truth}
 use Rattle.sl_plain.specs.declared.line.Right.{Right}
-use Rattle.sl_plain.specs.declared.line.Right.TheVariants.{Just, Compare, Apply}
+use Rattle.sl_plain.specs.declared.line.Right.TheVariants.{Just, Compare, Apply, Get}
 use Rattle.sl_plain.specs.declared.line.Condition.{Condition}
 use Rattle.sl_plain.specs.declared.line.Condition.TheVariants as condition
 use Rattle.sl_plain.specs.declared.line.Line.{Line}
-use Rattle.sl_plain.specs.declared.line.Line.TheVariants.{Declare, Assign, Print, PrintText, If, Else, Close, Assert, Halt, Return}
+use Rattle.sl_plain.specs.declared.line.Line.TheVariants.{Declare, Assign, Print, PrintText, If, While, Spin, For, Else, Close, Assert, Halt, Return}
 use Rattle.sl_plain.specs.Lines.{IsLetterOrDigit, IsNumber, IsTextByte, IsText, IsAtom, IsRight, IsCondition, IsLine, spelled_atom, spelled_comparison, spelled_op, spelled_between, spelled_right, spelled_condition, spelled_kind, spelled_var, spelled}
 use Rattle.sl_plain.specs.Plain.{indented}
 use Rattle.sl_plain.proofs.Files.Lines.{has_feed}
@@ -87,6 +87,7 @@ right_free : (right : Right) → IsRight right → has_feed (spelled_right right
 right_free (Just atom) is = atom_free atom is
 right_free (Compare by a b) is = between_free (spelled_comparison by) a b (comparison_free by) is.0 is.1
 right_free (Apply op a b) is = between_free (spelled_op op) a b (op_free op) is.1 is.2
+right_free Get is = refl
 
 condition_free : (test : Condition) → IsCondition test → has_feed (spelled_condition test) ≡ false
 condition_free (condition.Just atom) is = atom_free atom is
@@ -115,6 +116,13 @@ line_free (Assign name value) is = wrapped_free name (codes " = ") (spelled_righ
 line_free (Print atom) is = wrapped_free (codes "println(") (spelled_atom atom) (codes ")") refl (atom_free atom is) refl
 line_free (PrintText text) is = wrapped_free (codes "println(\"") text (codes "\")") refl (text_free text is) refl
 line_free (If test) is = wrapped_free (codes "if (") (spelled_condition test) (codes ") {") refl (condition_free test is) refl
+line_free (While test) is = wrapped_free (codes "while (") (spelled_condition test) (codes ") {") refl (condition_free test is) refl
+line_free (Spin test) is = wrapped_free (codes "while (") (spelled_condition test) (codes ") {}") refl (condition_free test is) refl
+line_free (For name first end) is =
+    wrapped_free (codes "for (" ++ name ++ codes " <- " ++ spelled_atom first ++ codes " until ") (spelled_atom end) (codes ") {")
+    (wrapped_free (codes "for (" ++ name ++ codes " <- ") (spelled_atom first) (codes " until ")
+    (wrapped_free (codes "for (") name (codes " <- ") refl (letters_free name is.0.letters) refl) (atom_free first is.1) refl)
+    (atom_free end is.2) refl
 line_free Else is = refl
 line_free Close is = refl
 line_free (Assert test) is = wrapped_free (codes "assert(") (spelled_condition test) (codes ")") refl (condition_free test is) refl

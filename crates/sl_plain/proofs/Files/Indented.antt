@@ -2,7 +2,7 @@
 use Rattle.std.proofs.Common.{◌≡◌, ℕ, zero, suc, ◌+◌, List, [], ◌∷◌, ◌++◌, replicate, drop, true, false, cond, Some, refl, sym, ap, ◌∙◌, subst, arith, ne_eqb, IfSome, codes}
 use Rattle.std.specs.List.{prefix_len}
 use Rattle.sl_plain.specs.declared.line.Line.{Line}
-use Rattle.sl_plain.specs.declared.line.Line.TheVariants.{Declare, Assign, Print, PrintText, If, Else, Close, Assert, Halt, Return}
+use Rattle.sl_plain.specs.declared.line.Line.TheVariants.{Declare, Assign, Print, PrintText, If, While, Spin, For, Else, Close, Assert, Halt, Return}
 use Rattle.sl_plain.specs.Lines.{BeginsSmall, IsLine, spelled, spelled_right}
 use Rattle.sl_plain.specs.LineReading.{line_of}
 use Rattle.sl_plain.specs.Plain.{indented}
@@ -35,6 +35,9 @@ no_space (Assign name value) is = begins_so name (codes " = ") (spelled_right va
 no_space (Print atom) is = refl
 no_space (PrintText text) is = refl
 no_space (If test) is = refl
+no_space (While test) is = refl
+no_space (Spin test) is = refl
+no_space (For name first end) is = refl
 no_space Else is = refl
 no_space Close is = refl
 no_space (Assert test) is = refl

@@ -8,7 +8,7 @@ use Rattle.sl_plain.specs.declared.line.Kind.{Kind}
 use Rattle.sl_plain.specs.declared.tree.Stmt.{Stmt, Stmt-F, ind-Stmt, map-Stmt, roll-Stmt}
 use Rattle.sl_plain.specs.declared.tree.Stmt.TheOpen as open_stmt
 use Rattle.sl_plain.specs.declared.tree.Stmt.TheVariants as stmt
-use Rattle.sl_plain.specs.Plain.{Declared, declaration, kind_of_atom, right_fits, condition_fits, assigned_fits, Scoped, where_so, scoped_in_order, block_fits, scoped_step, scoped}
+use Rattle.sl_plain.specs.Plain.{Declared, declaration, counted, kind_of_atom, are_numbers, right_fits, condition_fits, assigned_fits, Scoped, where_so, scoped_in_order, block_fits, scoped_step, scoped}
 use Rattle.sl_plain.proofs.Layers.{scoped_layer}
 
 abbrev at_scope : List Declared → Scoped → Option (List Declared)
@@ -37,6 +37,16 @@ scoped_if scope test chosen = ap (λ s. scoped s scope) (sym (stmt.rolls-If test
 
 pub scoped_if_else : (scope : List Declared) (test : Condition) (chosen other : List Stmt) → scoped (stmt.If test chosen (Some other)) scope ≡ where_so (condition_fits scope test && block_fits (map scoped chosen) scope && block_fits (map scoped other) scope) scope
 scoped_if_else scope test chosen other = ap (λ s. scoped s scope) (sym (stmt.rolls-If test chosen (Some other))) ∙ ap (at_scope scope) (scoped_layer (open_stmt.If test chosen (Some other)))
+
+pub scoped_while : (scope : List Declared) (test : Condition) (body : List Stmt) → scoped (stmt.While test body) scope ≡ where_so (condition_fits scope test && block_fits (map scoped body) scope) scope
+scoped_while scope test body = ap (λ s. scoped s scope) (sym (stmt.rolls-While test body)) ∙ ap (at_scope scope) (scoped_layer (open_stmt.While test body))
+
+pub scoped_spin : (scope : List Declared) (test : Condition) → scoped (stmt.Spin test) scope ≡ where_so (condition_fits scope test) scope
+scoped_spin scope test = ap (λ s. scoped s scope) (sym (stmt.rolls-Spin test)) ∙ ap (at_scope scope) (scoped_layer (open_stmt.Spin test))
+
+pub scoped_for : (scope : List Declared) (name : List ℕ) (from end : Atom) (body : List Stmt)
+    → scoped (stmt.For name from end body) scope ≡ where_so (are_numbers scope from end && block_fits (map scoped body) (counted name ∷ scope)) scope
+scoped_for scope name from end body = ap (λ s. scoped s scope) (sym (stmt.rolls-For name from end body)) ∙ ap (at_scope scope) (scoped_layer (open_stmt.For name from end body))
 
 -- behind statements there are more names, and those that were there
 pub record Keeps (scope more : List Declared) : Type 0 where
@@ -77,6 +87,11 @@ stmt_keeps s = ind-Stmt Claim (λ x y same. subst (λ z. Claim (roll-Stmt z)) sa
         still (open_stmt.If test (map first chosen) None) (condition_fits scope test && block_fits (map scoped (map first chosen)) scope && true) scope more scope refl (same_keeps scope) e
     layer (open_stmt.If test chosen (Some other)) scope more e =
         still (open_stmt.If test (map first chosen) (Some (map first other))) (condition_fits scope test && block_fits (map scoped (map first chosen)) scope && block_fits (map scoped (map first other)) scope) scope more scope refl (same_keeps scope) e
+    layer (open_stmt.While test body) scope more e =
+        still (open_stmt.While test (map first body)) (condition_fits scope test && block_fits (map scoped (map first body)) scope) scope more scope refl (same_keeps scope) e
+    layer (open_stmt.Spin test) scope more e = still (open_stmt.Spin test) (condition_fits scope test) scope more scope refl (same_keeps scope) e
+    layer (open_stmt.For name from end body) scope more e =
+        still (open_stmt.For name from end (map first body)) (are_numbers scope from end && block_fits (map scoped (map first body)) (counted name ∷ scope)) scope more scope refl (same_keeps scope) e
     layer (open_stmt.Assert test) scope more e = still (open_stmt.Assert test) (condition_fits scope test) scope more scope refl (same_keeps scope) e
     layer (open_stmt.Halt text) scope more e = still (open_stmt.Halt text) true scope more scope refl (same_keeps scope) e
 
@@ -103,4 +118,4 @@ left scope more after len keeps is e =
     let count : length more - len ≡ keeps.count = let long = keeps.long in omega arith
     in e ∙ ap (λ n. drop n more) count ∙ keeps.rest
 
-pub ruleset scoped_rules = (scoped_declare, scoped_assign, scoped_print, scoped_text, scoped_assert, scoped_halt, scoped_if, scoped_if_else)
+pub ruleset scoped_rules = (scoped_declare, scoped_assign, scoped_print, scoped_text, scoped_assert, scoped_halt, scoped_if, scoped_if_else, scoped_while, scoped_spin, scoped_for)

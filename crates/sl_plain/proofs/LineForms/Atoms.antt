@@ -15,6 +15,7 @@ use Rattle.sl_plain.specs.declared.line.Atom.{Atom}
 use Rattle.sl_plain.specs.declared.line.Atom.TheVariants.{Name, Number, Truth}
 use Rattle.sl_plain.specs.Lines.{IsLetterOrDigit, IsNumber, IsAtom, spelled_atom}
 use Rattle.sl_plain.specs.LineReading.{is_word, is_reserved, is_name, number_of, literal_of, atom_of}
+use Rattle.sl_plain.proofs.Names.{from_all}
 use Rattle.sl_plain.proofs.LineParts.Cuts.{is_space}
 use Rattle.sl_plain.proofs.LineParts.Decisions.{Decides-name}
 use Rattle.sl_plain.proofs.LineParts.Finds.{finds_if, finds_map, finds_from}
@@ -108,3 +109,9 @@ no_space_atom atom is =
 pub no_quote_atom : (atom : Atom) (more : List ℕ) → IsAtom atom → spelled_atom atom ≢ 34 ∷ more
 no_quote_atom atom more is e =
     let byte : IsAtomByte 34 = All-head IsAtomByte 34 more (subst (All IsAtomByte) e (atom_bytes atom is)) in omega arith
+
+-- and isn't the input
+pub no_input_atom : (atom : Atom) → IsAtom atom → spelled_atom atom ≢ codes "Port.get()"
+no_input_atom atom is e =
+    let bytes = from_all IsAtomByte (codes "Port.get()") (subst (All IsAtomByte) e (atom_bytes atom is)) in
+    let point : IsAtomByte 46 = bytes.1.1.1.1.0 in omega arith

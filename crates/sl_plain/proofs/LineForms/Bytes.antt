@@ -13,11 +13,11 @@ use Rattle.sl_num.specs.declared.comparing.Comparison.TheVariants.{Less, LessEqu
 use Rattle.sl_plain.specs.declared.line.Atom.{Atom}
 use Rattle.sl_plain.specs.declared.line.Kind.TheVariants as kind
 use Rattle.sl_plain.specs.declared.line.Right.{Right}
-use Rattle.sl_plain.specs.declared.line.Right.TheVariants.{Just, Compare, Apply}
+use Rattle.sl_plain.specs.declared.line.Right.TheVariants.{Just, Compare, Apply, Get}
 use Rattle.sl_plain.specs.declared.line.Condition.{Condition}
 use Rattle.sl_plain.specs.declared.line.Condition.TheVariants as condition
 use Rattle.sl_plain.specs.declared.line.Line.{Line}
-use Rattle.sl_plain.specs.declared.line.Line.TheVariants.{Declare, Assign, Print, PrintText, If, Else, Close, Assert, Halt, Return}
+use Rattle.sl_plain.specs.declared.line.Line.TheVariants.{Declare, Assign, Print, PrintText, If, While, Spin, For, Else, Close, Assert, Halt, Return}
 use Rattle.sl_plain.specs.declared.line.Kind.{Kind}
 use Rattle.sl_plain.specs.Lines.{IsLetterOrDigit, IsName, IsTextByte, IsText, IsAtom, IsRight, IsCondition, IsLine, spelled_atom, spelled_comparison, spelled_op, spelled_between, spelled_right, spelled_condition, spelled_kind, spelled_var, spelled}
 use Rattle.sl_plain.proofs.LineForms.Atoms.{IsAtomByte, atom_bytes}
@@ -77,6 +77,7 @@ visible_right : (right : Right) → IsRight right → visible (spelled_right rig
 visible_right (Just atom) is = visible_atom atom is
 visible_right (Compare by a b) is = visible_between (spelled_comparison by) a b (visible_comparison by) is.0 is.1
 visible_right (Apply op a b) is = visible_between (spelled_op op) a b (visible_op op) is.1 is.2
+visible_right Get is = refl
 
 visible_condition : (test : Condition) → IsCondition test → visible (spelled_condition test) ≡ true
 visible_condition (condition.Just atom) is = visible_atom atom is
@@ -106,6 +107,14 @@ visible_line (Assign name value) is =
 visible_line (Print atom) is = both (spelled_atom atom) (codes ")") (visible_atom atom is) refl
 visible_line (PrintText text) is = both text (codes "\")") (visible_text text is) refl
 visible_line (If test) is = both (spelled_condition test) (codes ") {") (visible_condition test is) refl
+visible_line (While test) is = both (spelled_condition test) (codes ") {") (visible_condition test is) refl
+visible_line (Spin test) is = both (spelled_condition test) (codes ") {}") (visible_condition test is) refl
+visible_line (For name first end) is =
+    both (name ++ codes " <- " ++ spelled_atom first ++ codes " until " ++ spelled_atom end) (codes ") {")
+    (both (name ++ codes " <- " ++ spelled_atom first ++ codes " until ") (spelled_atom end)
+    (both (name ++ codes " <- " ++ spelled_atom first) (codes " until ")
+    (both (name ++ codes " <- ") (spelled_atom first) (both name (codes " <- ") (visible_name name is.0) refl) (visible_atom first is.1)) refl)
+    (visible_atom end is.2)) refl
 visible_line Else is = refl
 visible_line Close is = refl
 visible_line (Assert test) is = both (spelled_condition test) (codes ")") (visible_condition test is) refl
@@ -130,6 +139,9 @@ first_other (Assign (byte ∷ name) value) is = let small = is.0.small in ne_eqb
 first_other (Print atom) is = refl
 first_other (PrintText text) is = refl
 first_other (If test) is = refl
+first_other (While test) is = refl
+first_other (Spin test) is = refl
+first_other (For name first end) is = refl
 first_other Else is = refl
 first_other Close is = refl
 first_other (Assert test) is = refl

@@ -7,11 +7,11 @@ use Rattle.std.proofs.lemmas.Option.{same_Some}
 use Rattle.sl_plain.specs.declared.line.Kind.{Kind}
 use Rattle.sl_plain.specs.declared.line.Right.{Right}
 use Rattle.sl_plain.specs.declared.line.Line.{Line}
-use Rattle.sl_plain.specs.declared.line.Line.TheVariants.{Declare, Assign, Print, PrintText, If, Else, Close, Assert, Halt, Return}
+use Rattle.sl_plain.specs.declared.line.Line.TheVariants.{Declare, Assign, Print, PrintText, If, While, Spin, For, Else, Close, Assert, Halt, Return}
 use Rattle.sl_plain.specs.declared.reading.words.Front.{Front}
 use Rattle.sl_plain.specs.declared.reading.words.Front.TheVariants as front
 use Rattle.sl_plain.specs.Lines.{IsName, IsText, IsAtom, IsRight, IsCondition, IsLine, spelled_atom, spelled_condition, spelled_kind, spelled_right, spelled_var, spelled}
-use Rattle.sl_plain.specs.LineReading.{between, word_of, behind_word, quoted_in, atom_of, condition_in, front_of, declaration_of, print_of, closing_of, line_with, line_of}
+use Rattle.sl_plain.specs.LineReading.{between, word_of, behind_word, quoted_in, atom_of, condition_in, front_of, declaration_of, print_of, while_of, for_of, closing_of, line_with, line_of}
 use Rattle.sl_plain.proofs.LineParts.Cuts.{word_and_rest}
 use Rattle.sl_plain.proofs.LineParts.Decisions.{Decides-letters}
 use Rattle.sl_plain.proofs.LineParts.Finds.{finds_map}
@@ -19,6 +19,7 @@ use Rattle.sl_plain.proofs.LineParts.Wrapped.{SpelledIs, wrapped_found, fronted_
 use Rattle.sl_plain.proofs.LineForms.Atoms.{atom_found, atom_there}
 use Rattle.sl_plain.proofs.LineForms.Rights.{condition_found, condition_there}
 use Rattle.sl_plain.proofs.LineForms.Fronts.{FrontIs, front_found, name_front, line_at}
+use Rattle.sl_plain.proofs.LineForms.Loops.{while_found, while_there, spin_there, for_found, spelled_counting, for_spelled, for_there}
 use Rattle.sl_plain.proofs.LineForms.Bodies.{LineIs, quoted, quoted_found, quoted_there, print_found, print_atom_there, print_text_there, closing_found, assignment_found, assignment_there, declaration_found, declaration_there}
 
 -- a line that is found by its front is spelled so
@@ -30,6 +31,8 @@ found_with front.If word rest is =
     finds_map (SpelledIs IsCondition (λ x. codes " (" ++ spelled_condition x ++ codes ") {") rest) (LineIs word rest) If (option_and_then condition_in (between (codes " (") (codes ") {") rest))
     (wrapped_found IsCondition spelled_condition condition_in condition_found (codes " (") (codes ") {") rest)
     (λ x of. (of.0, ap (λ r. codes "if" ++ r) of.1 ∙ ap (λ w. w ++ rest) (sym is)))
+found_with front.While word rest is = subst (λ w. IfSome (while_of rest) (LineIs w rest)) (sym is) (while_found rest)
+found_with front.For word rest is = subst (λ w. IfSome (for_of rest) (LineIs w rest)) (sym is) (for_found rest)
 found_with front.Assert word rest is =
     finds_map (SpelledIs IsCondition (λ x. codes "(" ++ spelled_condition x ++ codes ")") rest) (LineIs word rest) Assert (option_and_then condition_in (between (codes "(") (codes ")") rest))
     (wrapped_found IsCondition spelled_condition condition_in condition_found (codes "(") (codes ")") rest)
@@ -82,6 +85,12 @@ line_there (PrintText text) is = line_at (codes "println") 40 (codes "\"" ++ tex
 line_there (If test) is =
     line_at (codes "if") 32 (codes "(" ++ spelled_condition test ++ codes ") {") refl refl
     ∙ ap (option_map If) (wrapped_there IsCondition spelled_condition condition_in (codes " (") (codes ") {") test (condition_there test is))
+line_there (While test) is = line_at (codes "while") 32 (codes "(" ++ spelled_condition test ++ codes ") {") refl refl ∙ while_there test is
+line_there (Spin test) is = line_at (codes "while") 32 (codes "(" ++ spelled_condition test ++ codes ") {}") refl refl ∙ spin_there test is
+line_there (For name first end) is =
+    ap line_of (for_spelled name first end is.0 is.1 is.2)
+    ∙ line_at (codes "for") 32 (codes "(" ++ spelled_counting name (spelled_atom first) (spelled_atom end) ++ codes ") {") refl refl
+    ∙ for_there name first end is.0 is.1 is.2
 line_there Else is = refl
 line_there Close is = refl
 line_there (Assert test) is =

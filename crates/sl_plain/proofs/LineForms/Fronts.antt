@@ -16,6 +16,8 @@ FrontIs word front.Val = word ≡ codes "val"
 FrontIs word front.Var = word ≡ codes "var"
 FrontIs word front.Println = word ≡ codes "println"
 FrontIs word front.If = word ≡ codes "if"
+FrontIs word front.While = word ≡ codes "while"
+FrontIs word front.For = word ≡ codes "for"
 FrontIs word front.Assert = word ≡ codes "assert"
 FrontIs word front.Halt = word ≡ codes "halt"
 FrontIs word front.Return = word ≡ codes "return"
@@ -37,10 +39,12 @@ front_found word =
     (here word (codes "var") front.Var _ (λ e. e)
     (here word (codes "println") front.Println _ (λ e. e)
     (here word (codes "if") front.If _ (λ e. e)
+    (here word (codes "while") front.While _ (λ e. e)
+    (here word (codes "for") front.For _ (λ e. e)
     (here word (codes "assert") front.Assert _ (λ e. e)
     (here word (codes "halt") front.Halt _ (λ e. e)
     (here word (codes "return") front.Return _ (λ e. e)
-    (here word [] front.Brace front.Name (λ e. e) tt)))))))
+    (here word [] front.Brace front.Name (λ e. e) tt)))))))))
 
 -- a word that isn't this one
 other_word : (word text : List ℕ) → word ≢ text → bytes_eq word text ≡ false
@@ -62,9 +66,17 @@ from_halt word = cond (bytes_eq word (codes "halt")) front.Halt (from_return wor
 abbrev from_assert : List ℕ → Front
 from_assert word = cond (bytes_eq word (codes "assert")) front.Assert (from_halt word)
 
+-- `for`, or one that follows
+abbrev from_for : List ℕ → Front
+from_for word = cond (bytes_eq word (codes "for")) front.For (from_assert word)
+
+-- `while`, or one that follows
+abbrev from_while : List ℕ → Front
+from_while word = cond (bytes_eq word (codes "while")) front.While (from_for word)
+
 -- `if`, or one that follows
 abbrev from_if : List ℕ → Front
-from_if word = cond (bytes_eq word (codes "if")) front.If (from_assert word)
+from_if word = cond (bytes_eq word (codes "if")) front.If (from_while word)
 
 -- `println`, or one that follows
 abbrev from_println : List ℕ → Front
@@ -80,7 +92,9 @@ name_front name is =
     ap (λ t. cond t front.Val (from_var name)) (no_word (codes "val") (34, omega arith, refl))
     ∙ ap (λ t. cond t front.Var (from_println name)) (no_word (codes "var") (35, omega arith, refl))
     ∙ ap (λ t. cond t front.Println (from_if name)) (free (codes "println") (2, omega arith, refl))
-    ∙ ap (λ t. cond t front.If (from_assert name)) (no_word (codes "if") (12, omega arith, refl))
+    ∙ ap (λ t. cond t front.If (from_while name)) (no_word (codes "if") (12, omega arith, refl))
+    ∙ ap (λ t. cond t front.While (from_for name)) (no_word (codes "while") (36, omega arith, refl))
+    ∙ ap (λ t. cond t front.For (from_assert name)) (no_word (codes "for") (10, omega arith, refl))
     ∙ ap (λ t. cond t front.Assert (from_halt name)) (free (codes "assert") (3, omega arith, refl))
     ∙ ap (λ t. cond t front.Halt (from_return name)) (free (codes "halt") (5, omega arith, refl))
     ∙ ap (λ t. cond t front.Return (from_brace name)) (no_word (codes "return") (24, omega arith, refl))

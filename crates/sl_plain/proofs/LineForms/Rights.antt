@@ -1,21 +1,23 @@
 -- Right sides and conditions: what is found is spelled so, and what is spelled so is found.
-use Rattle.std.proofs.Common.{◌≡◌, ◌≢◌, ℕ, List, [], ◌∷◌, ◌++◌, append_assoc, false, cond, Option, Some, None, option_map, option_and_then, refl, sym, ap, ap₂, ◌∙◌, subst, eqb-true, IfSome, codes}
+use Rattle.std.proofs.Common.{◌≡◌, ◌≢◌, ℕ, List, [], ◌∷◌, ◌++◌, append_assoc, false, cond, Option, Some, None, option_map, option_and_then, refl, sym, ap, ap₂, ◌∙◌, subst, eqb-true, IfSome, codes, bytes_eq}
 use Rattle.std.specs.Prelude.{◌==◌}
 use Rattle.std.specs.List.{list_any}
+use Rattle.std.proofs.lemmas.Bool.{false_from_ne_true}
+use Rattle.std.proofs.lemmas.Slice.Eq.{bytes_eq-Decides}
 use Rattle.sl_num.specs.declared.arithmetic.Op.TheVariants.{Add, Sub, Mul, Div, Rem, Neg}
 use Rattle.sl_num.specs.declared.comparing.Comparison.TheVariants.{Less, LessEqual, Greater, GreaterEqual, Equal, NotEqual}
 use Rattle.sl_plain.specs.declared.line.Atom.{Atom}
 use Rattle.sl_plain.specs.declared.line.Right.{Right}
-use Rattle.sl_plain.specs.declared.line.Right.TheVariants.{Just, Compare, Apply}
+use Rattle.sl_plain.specs.declared.line.Right.TheVariants.{Just, Compare, Apply, Get}
 use Rattle.sl_plain.specs.declared.line.Condition.{Condition}
 use Rattle.sl_plain.specs.declared.line.Condition.TheVariants as condition
 use Rattle.sl_plain.specs.declared.reading.rights.Sign.{Sign}
 use Rattle.sl_plain.specs.declared.reading.rights.Sign.TheVariants.{Compares, Applies}
 use Rattle.sl_plain.specs.Lines.{IsAtom, IsRight, IsCondition, spelled_atom, spelled_comparison, spelled_op, spelled_right, spelled_condition}
-use Rattle.sl_plain.specs.LineReading.{cut_at_space, atom_of, short_sign, long_sign, sign_of, joined, joined_of, right_from, right_of, condition_of, condition_in}
+use Rattle.sl_plain.specs.LineReading.{cut_at_space, atom_of, short_sign, long_sign, sign_of, joined, joined_of, single_of, right_from, right_of, condition_of, condition_in}
 use Rattle.sl_plain.proofs.LineParts.Cuts.{is_space, cut_found, cut_there, no_cut}
 use Rattle.sl_plain.proofs.LineParts.Finds.{finds_if, finds_map, finds_then}
-use Rattle.sl_plain.proofs.LineForms.Atoms.{AtomIs, atom_found, atom_there, no_space_atom}
+use Rattle.sl_plain.proofs.LineForms.Atoms.{AtomIs, atom_found, atom_there, no_space_atom, no_input_atom}
 
 -- the bytes of a sign
 abbrev spelled_sign : Sign → List ℕ
@@ -124,13 +126,20 @@ joined_found left more (Some cut) at =
         let right = joined_is sign a b is.0 first.0 second.0 in
         (right.0, right.1 ∙ ap₂ (λ x y. x ++ 32 ∷ y) first.1 (ap₂ (λ x y. x ++ 32 ∷ y) is.1 second.1 ∙ sym (cut_found more cut.0 cut.1 at)))
 
+-- the input or an atom, where it is found, is spelled so
+single_found : (bytes : List ℕ) → IfSome (single_of bytes) (RightIs bytes)
+single_found bytes =
+    finds_if (RightIs bytes) (bytes_eq bytes (codes "Port.get()")) (Some Get) (option_map Just (atom_of bytes))
+    (λ e. (tt, sym ((bytes_eq-Decides bytes (codes "Port.get()")).0 e)))
+    (λ _. finds_map (AtomIs bytes) (RightIs bytes) Just (atom_of bytes) (atom_found bytes) (λ atom is. is))
+
 -- a right side that is found is spelled so
 pub right_found : (bytes : List ℕ) → IfSome (right_of bytes) (RightIs bytes)
 unfolding right_of
 right_found bytes = at (cut_at_space bytes) refl
   where
     at : (cut : Option (List ℕ × List ℕ)) → cut_at_space bytes ≡ cut → IfSome (right_from bytes cut) (RightIs bytes)
-    at None none = finds_map (AtomIs bytes) (RightIs bytes) Just (atom_of bytes) (atom_found bytes) (λ atom is. is)
+    at None none = single_found bytes
     at (Some cut) found =
         subst (λ b. IfSome (joined_of cut.0 (cut_at_space cut.1)) (RightIs b)) (sym (cut_found bytes cut.0 cut.1 found)) (joined_found cut.0 cut.1 (cut_at_space cut.1) refl)
 
@@ -151,7 +160,16 @@ joined_there sign a b is left right =
 just_there : (atom : Atom) → IsAtom atom → right_of (spelled_atom atom) ≡ Some (Just atom)
 unfolding right_of
 just_there atom is =
-    ap (right_from (spelled_atom atom)) (no_cut (spelled_atom atom) (no_space_atom atom is)) ∙ ap (option_map Just) (atom_there atom is)
+    let bytes = spelled_atom atom in
+    ap (right_from bytes) (no_cut bytes (no_space_atom atom is))
+    ∙ ap (λ t. cond t (Some Get) (option_map Just (atom_of bytes)))
+    (false_from_ne_true (bytes_eq bytes (codes "Port.get()")) (λ passed. no_input_atom atom is ((bytes_eq-Decides bytes (codes "Port.get()")).0 passed)))
+    ∙ ap (option_map Just) (atom_there atom is)
+
+-- the input is found
+get_there : right_of (codes "Port.get()") ≡ Some Get
+unfolding right_of
+get_there = refl
 
 -- what is spelled as a right side is found
 pub right_there : (right : Right) → IsRight right → right_of (spelled_right right) ≡ Some right
@@ -160,6 +178,7 @@ right_there (Compare by a b) is =
     ap right_of (parted (spelled_atom a) (spelled_comparison by) (spelled_atom b)) ∙ joined_there (Compares by) a b tt is.0 is.1
 right_there (Apply op a b) is =
     ap right_of (parted (spelled_atom a) (spelled_op op) (spelled_atom b)) ∙ joined_there (Applies op) a b is.0 is.1 is.2
+right_there Get is = get_there
 
 -- the bytes are this condition
 abbrev pub ConditionIs : List ℕ → Condition → Type 0
@@ -170,6 +189,7 @@ condition_is : (bytes : List ℕ) (right : Right) → RightIs bytes right → If
 condition_is bytes (Just atom) is = is
 condition_is bytes (Compare by a b) is = is
 condition_is bytes (Apply op a b) is = tt
+condition_is bytes Get is = tt
 
 -- a condition that is found is spelled so
 pub condition_found : (bytes : List ℕ) → IfSome (condition_in bytes) (ConditionIs bytes)

@@ -24,7 +24,7 @@ between_there front middle end =
     (ap (λ t. cond t (Some middle) None) ((bytes_eq-Decides (front ++ middle ++ end) (front ++ middle ++ end)).1 refl))
 
 -- where nothing stands between a front and an end, nothing is found
-not_between : (front end line : List ℕ) → ((middle : List ℕ) → line ≢ front ++ middle ++ end) → between front end line ≡ None
+pub not_between : (front end line : List ℕ) → ((middle : List ℕ) → line ≢ front ++ middle ++ end) → between front end line ≡ None
 not_between front end line none =
     let here = slice_range line (length front) (length line - length end) in
     ap (λ t. cond t (Some here) None)

@@ -5,6 +5,7 @@ ghost use Rattle.sl_plain.specs.Plain.{declared_in};
 ghost use Rattle.sl_plain.specs.Numbering.{Declares};
 
 use super::numbers::Variables;
+use crate::line::Kind;
 use crate::tree::Stmt;
 use sl_text::Mem;
 use std::alloc::Global;
@@ -32,9 +33,15 @@ fn declare_stmt(alloc: Global, variables: &mut Variables, stmt: &Stmt) -> Result
                 Some(stmts) => declare_block(alloc, variables, stmts.as_slice()),
             }
         }
+        Stmt::While(_, body) => declare_block(alloc, variables, body.as_slice()),
+        Stmt::For(name, _, _, body) => {
+            variables.add(alloc, name.as_slice(), Kind::Number)?;
+            declare_block(alloc, variables, body.as_slice())
+        }
         Stmt::Assign(..) => Ok(()),
         Stmt::Print(_) => Ok(()),
         Stmt::PrintText(_) => Ok(()),
+        Stmt::Spin(_) => Ok(()),
         Stmt::Assert(_) => Ok(()),
         Stmt::Halt(_) => Ok(()),
     }

@@ -3,14 +3,17 @@ ghost use Rattle.std.specs.Prelude.{◌≡◌, ◌+◌, List, [], ◌∷◌, ◌
 ghost use Rattle.sl_core.specs.declared.tree.CoreStmt.TheVariants as core;
 ghost use Rattle.sl_plain.specs.declared.line.Kind.TheVariants as kind;
 ghost use Rattle.sl_plain.specs.Plain.{Declared, kind_of_atom};
-ghost use Rattle.sl_plain.specs.Lowered.{atom_expr, put_text, print_of, lowered};
+ghost use Rattle.sl_plain.specs.Lowered.{atom_expr, store_right, put_text, print_of, lowered};
 ghost use Rattle.sl_plain.specs.Numbering.{AreNumbered, IsBy, IsLoweredTo, lowered_all};
 
-use super::expressions::{lower_atom, lower_condition, lower_place, lower_right};
+use super::expressions::{
+    apply, compare, lower_atom, lower_condition, lower_place, number_of, unnamed,
+};
+use super::loops::{Counter, for_of, while_of};
 use super::numbers::Variables;
-use crate::line::{Atom, Kind};
+use crate::line::{Atom, Kind, Right};
 use crate::tree::Stmt;
-use sl_core::{CoreExpr, CoreStmt};
+use sl_core::{CoreExpr, CorePath, CoreStmt};
 use sl_text::{Mem, Row};
 use std::alloc::Global;
 
@@ -21,20 +24,21 @@ pub struct Block {
     pub behind: u32,
 }
 
-/// The statements behind a line, in order.
+/// The statements behind a line, in order, in `for`s with so many variables without names.
 #[cycle(lower)]
 pub fn lower_block(
     alloc: Global,
     variables: &Variables,
     stmts: &[Stmt],
+    taken: u32,
     line: u32,
 ) -> Result<Block, Mem>
-    ensures { IfOk result (λ block. (names : List Declared) → AreNumbered names variables.now → IsLoweredTo (lowered_all names stmts.now) line block.stmts block.behind) }
+    ensures { IfOk result (λ block. (names : List Declared) → AreNumbered names variables.now → IsLoweredTo (lowered_all names stmts.now) taken line block.stmts block.behind) }
 {
     let mut low = Row::new(alloc);
     let mut behind = line;
     for stmt in stmts {
-        let block = lower_stmt(alloc, variables, stmt, behind)?;
+        let block = lower_stmt(alloc, variables, stmt, taken, behind)?;
         low.append(block.stmts)?;
         behind = block.behind;
     }
@@ -42,23 +46,29 @@ pub fn lower_block(
 }
 
 #[cycle(lower)]
-fn lower_stmt(alloc: Global, variables: &Variables, stmt: &Stmt, line: u32) -> Result<Block, Mem>
-    ensures { IfOk result (λ block. (names : List Declared) → AreNumbered names variables.now → IsLoweredTo (lowered names stmt.now) line block.stmts block.behind) }
+fn lower_stmt(
+    alloc: Global,
+    variables: &Variables,
+    stmt: &Stmt,
+    taken: u32,
+    line: u32,
+) -> Result<Block, Mem>
+    ensures { IfOk result (λ block. (names : List Declared) → AreNumbered names variables.now → IsLoweredTo (lowered names stmt.now) taken line block.stmts block.behind) }
 {
     match stmt {
         Stmt::Declare(_, name, _, first) => {
-            let value = lower_right(alloc, variables, line, first)?;
+            let place = lower_place(variables, name.as_slice());
             on_line(
                 alloc,
-                CoreStmt::Store(lower_place(variables, name.as_slice()), value),
+                store_right(alloc, variables, line, place, first)?,
                 line,
             )
         }
         Stmt::Assign(name, value) => {
-            let value = lower_right(alloc, variables, line, value)?;
+            let place = lower_place(variables, name.as_slice());
             on_line(
                 alloc,
-                CoreStmt::Store(lower_place(variables, name.as_slice()), value),
+                store_right(alloc, variables, line, place, value)?,
                 line,
             )
         }
@@ -72,7 +82,7 @@ fn lower_stmt(alloc: Global, variables: &Variables, stmt: &Stmt, line: u32) -> R
         Stmt::PrintText(text) => on_line(alloc, put_text_line(alloc, text.as_slice())?, line),
         Stmt::If(test, chosen, other) => {
             let test = lower_condition(alloc, variables, test)?;
-            let chosen = lower_block(alloc, variables, chosen.as_slice(), next(line)?)?;
+            let chosen = lower_block(alloc, variables, chosen.as_slice(), taken, next(line)?)?;
             match other {
                 None => {
                     let other = Row::new(alloc);
@@ -84,7 +94,7 @@ fn lower_stmt(alloc: Global, variables: &Variables, stmt: &Stmt, line: u32) -> R
                 }
                 Some(stmts) => {
                     let line = next(chosen.behind)?;
-                    let other = lower_block(alloc, variables, stmts.as_slice(), line)?;
+                    let other = lower_block(alloc, variables, stmts.as_slice(), taken, line)?;
                     on_line(
                         alloc,
                         CoreStmt::If(test, chosen.stmts, other.stmts),
@@ -92,6 +102,30 @@ fn lower_stmt(alloc: Global, variables: &Variables, stmt: &Stmt, line: u32) -> R
                     )
                 }
             }
+        }
+        Stmt::While(test, body) => {
+            let test = lower_condition(alloc, variables, test)?;
+            let body = lower_block(alloc, variables, body.as_slice(), taken, next(line)?)?;
+            on_line(alloc, while_of(alloc, test, body.stmts)?, body.behind)
+        }
+        Stmt::Spin(test) => {
+            let test = lower_condition(alloc, variables, test)?;
+            on_line(alloc, while_of(alloc, test, Row::new(alloc))?, line)
+        }
+        Stmt::For(name, first, end, body) => {
+            let bound = next(taken)?;
+            let counter = Counter {
+                name: number_of(variables, name.as_slice()),
+                next: unnamed(variables, taken)?,
+                bound: unnamed(variables, bound)?,
+            };
+            let body = lower_block(alloc, variables, body.as_slice(), next(bound)?, next(line)?)?;
+            let first = lower_atom(variables, first);
+            let end = lower_atom(variables, end);
+            Ok(Block {
+                stmts: for_of(alloc, line, counter, first, end, body.stmts)?,
+                behind: next(body.behind)?,
+            })
         }
         Stmt::Assert(test) => {
             let test = lower_condition(alloc, variables, test)?;
@@ -102,17 +136,52 @@ fn lower_stmt(alloc: Global, variables: &Variables, stmt: &Stmt, line: u32) -> R
     }
 }
 
-/// The next line. There are too many if it has no number.
-fn next(line: u32) -> Result<u32, Mem>
-    ensures { IfOk result (λ behind. behind ≡ line + 1) }
+/// The value of a right side is stored, on this line of the one file.
+fn store_right(
+    alloc: Global,
+    variables: &Variables,
+    line: u32,
+    path: CorePath,
+    right: &Right,
+) -> Result<CoreStmt, Mem>
+    ensures { IfOk result (λ stmt. IsBy variables.now (λ names. store_right names line path right.now) stmt) }
 {
-    match line.checked_add(1) {
+    match right {
+        Right::Just(atom) => Ok(CoreStmt::Store(path, lower_atom(variables, atom))),
+        Right::Compare(by, a, b) => {
+            let value = compare(
+                alloc,
+                *by,
+                lower_atom(variables, a),
+                lower_atom(variables, b),
+            )?;
+            Ok(CoreStmt::Store(path, value))
+        }
+        Right::Apply(op, a, b) => {
+            let value = apply(
+                alloc,
+                *op,
+                lower_atom(variables, a),
+                lower_atom(variables, b),
+                line,
+            )?;
+            Ok(CoreStmt::Store(path, value))
+        }
+        Right::Get => Ok(CoreStmt::Get(path)),
+    }
+}
+
+/// The next number, of a line or of a variable. There are too many if there is none.
+pub fn next(number: u32) -> Result<u32, Mem>
+    ensures { IfOk result (λ behind. behind ≡ number + 1) }
+{
+    match number.checked_add(1) {
         Some(behind) => Ok(behind),
         None => Err(Mem),
     }
 }
 
-fn one(alloc: Global, stmt: CoreStmt) -> Result<Row<CoreStmt>, Mem>
+pub fn one(alloc: Global, stmt: CoreStmt) -> Result<Row<CoreStmt>, Mem>
     ensures { IfOk result (λ stmts. stmts ≡ stmt ∷ []) }
 {
     let mut stmts = Row::new(alloc);

@@ -1,22 +1,31 @@
-// The `if`s that stand in one another, where a line is read.
+// The blocks that stand in one another, where a line is read.
 ghost use Rattle.std.specs.Prelude.{◌≡◌, [], IfOk, option_map};
-ghost use Rattle.sl_plain.specs.PlainReading.{blocks_of, no_blocks, ending, if_of, with_stmt, with_if, with_else, with_close, with_line};
+ghost use Rattle.sl_plain.specs.PlainReading.{blocks_of, no_blocks, returned, ending, stmt_of, with_stmt, with_opening, with_else, with_close, with_line};
 
 use crate::line::{Atom, Condition, Line};
 use crate::tree::Stmt;
 use sl_text::{Mem, Row};
 use std::alloc::Global;
 
-/// An `if` whose end isn't read yet: the statements before it in its block, its condition, and the statements up to its `else`,
-/// where that was read.
+/// What the last block of an unended statement begins with.
+#[derive(Drop)]
+pub enum Opening {
+    If(Condition),
+    /// The condition of the `if`, and the statements up to its `else`.
+    Else(Condition, Row<Stmt>),
+    While(Condition),
+    /// The name, and the bounds.
+    For(Row<u8>, Atom, Atom),
+}
+
+/// A statement whose end isn't read yet: the statements before it in its block, and what its last block begins with.
 #[derive(Drop)]
 pub struct Unended {
     pub before: Row<Stmt>,
-    pub test: Condition,
-    pub chosen: Option<Row<Stmt>>,
+    pub opening: Opening,
 }
 
-/// What is read so far: the `if`s whose ends aren't read yet, the first one first, and the statements of the last block.
+/// What is read so far: the statements whose ends aren't read yet, the first one first, and the statements of the last block.
 #[derive(Drop)]
 pub struct Stack {
     pub opened: Row<Unended>,
@@ -44,7 +53,12 @@ impl Stack {
             Line::Assign(name, value) => self.with_stmt(Stmt::Assign(name, value)),
             Line::Print(atom) => self.with_stmt(Stmt::Print(atom)),
             Line::PrintText(text) => self.with_stmt(Stmt::PrintText(text)),
-            Line::If(test) => self.with_if(alloc, test),
+            Line::If(test) => self.with_opening(alloc, Opening::If(test)),
+            Line::While(test) => self.with_opening(alloc, Opening::While(test)),
+            Line::Spin(test) => self.with_stmt(Stmt::Spin(test)),
+            Line::For(name, first, end) => {
+                self.with_opening(alloc, Opening::For(name, first, end))
+            }
             Line::Else => self.with_else(alloc),
             Line::Close => self.with_close(),
             Line::Assert(test) => self.with_stmt(Stmt::Assert(test)),
@@ -62,19 +76,17 @@ impl Stack {
         Ok(Some(Stack { opened, block }))
     }
 
-    /// An `if` begins, where fewer than 16 stand in one another.
-    fn with_if(self, alloc: Global, test: Condition) -> Result<Option<Stack>, Mem>
-        ensures { IfOk result (λ more. option_map blocks_of more ≡ with_if test (blocks_of self)) }
+    /// A block begins, where fewer than 16 stand in one another.
+    fn with_opening(self, alloc: Global, opening: Opening) -> Result<Option<Stack>, Mem>
+        ensures { IfOk result (λ more. option_map blocks_of more ≡ with_opening opening (blocks_of self)) }
     {
         let Stack { mut opened, block } = self;
         if opened.len() >= 16 {
             return Ok(None);
         }
-        let chosen = None;
         opened.push(Unended {
             before: block,
-            test,
-            chosen,
+            opening,
         })?;
         Ok(Some(Stack {
             opened,
@@ -82,39 +94,28 @@ impl Stack {
         }))
     }
 
-    /// The `else` of the last `if` begins, where it has none yet.
+    /// An `else` begins, behind the first block of an `if`.
     fn with_else(self, alloc: Global) -> Result<Option<Stack>, Mem>
         ensures { IfOk result (λ more. option_map blocks_of more ≡ with_else (blocks_of self).opened self.block) }
     {
         let Stack { mut opened, block } = self;
-        let Some(
-            Unended {
-                before,
-                test,
-                chosen,
-            },
-        ) = opened.pop()
-        else {
+        let Some(Unended { before, opening }) = opened.pop() else {
             return Ok(None);
         };
-        match chosen {
-            Some(_) => Ok(None),
-            None => {
-                let chosen = Some(block);
-                opened.push(Unended {
-                    before,
-                    test,
-                    chosen,
-                })?;
+        match opening {
+            Opening::If(test) => {
+                let opening = Opening::Else(test, block);
+                opened.push(Unended { before, opening })?;
                 Ok(Some(Stack {
                     opened,
                     block: Row::new(alloc),
                 }))
             }
+            Opening::Else(..) | Opening::While(_) | Opening::For(..) => Ok(None),
         }
     }
 
-    /// The last `if` ends.
+    /// The last block ends.
     fn with_close(self) -> Result<Option<Stack>, Mem>
         ensures { IfOk result (λ more. option_map blocks_of more ≡ with_close (blocks_of self).opened self.block) }
     {
@@ -122,14 +123,13 @@ impl Stack {
         let Some(
             Unended {
                 mut before,
-                test,
-                chosen,
+                opening,
             },
         ) = opened.pop()
         else {
             return Ok(None);
         };
-        before.push(if_of(test, chosen, block))?;
+        before.push(stmt_of(opening, block))?;
         Ok(Some(Stack {
             opened,
             block: before,
@@ -141,19 +141,43 @@ impl Stack {
         ensures { result ≡ ending (blocks_of self) line }
     {
         let Stack { opened, block } = self;
-        match line {
-            Line::Return(value) if opened.is_empty() => Some((block, value)),
-            _ => None,
+        let value = returned(line)?;
+        if !opened.is_empty() {
+            return None;
         }
+        Some((block, value))
     }
 }
 
-/// The statement of an `if` whose last block this is.
-fn if_of(test: Condition, chosen: Option<Row<Stmt>>, block: Row<Stmt>) -> Stmt
-    ensures { result ≡ if_of test chosen block }
+/// The atom of a return.
+fn returned(line: Line) -> Option<Atom>
+    ensures { result ≡ returned line }
 {
-    match chosen {
-        None => Stmt::If(test, block, None),
-        Some(chosen) => Stmt::If(test, chosen, Some(block)),
+    match line {
+        Line::Return(value) => Some(value),
+        Line::Declare(..)
+        | Line::Assign(..)
+        | Line::Print(_)
+        | Line::PrintText(_)
+        | Line::If(_)
+        | Line::While(_)
+        | Line::Spin(_)
+        | Line::For(..)
+        | Line::Else
+        | Line::Close
+        | Line::Assert(_)
+        | Line::Halt(_) => None,
+    }
+}
+
+/// The statement whose last block this is.
+fn stmt_of(opening: Opening, block: Row<Stmt>) -> Stmt
+    ensures { result ≡ stmt_of opening block }
+{
+    match opening {
+        Opening::If(test) => Stmt::If(test, block, None),
+        Opening::Else(test, chosen) => Stmt::If(test, chosen, Some(block)),
+        Opening::While(test) => Stmt::While(test, block),
+        Opening::For(name, first, end) => Stmt::For(name, first, end, block),
     }
 }

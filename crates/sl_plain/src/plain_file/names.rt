@@ -47,8 +47,17 @@ fn put_names_in(alloc: Global, names: &mut Row<Row<u8>>, stmt: &Stmt) -> Result<
                 Some(other) => put_names(alloc, names, other.as_slice()),
             }
         }
-        Stmt::Assign(..) | Stmt::Print(_) | Stmt::PrintText(_) | Stmt::Assert(_) | Stmt::Halt(_) =>
-            Ok(()),
+        Stmt::While(_, body) => put_names(alloc, names, body.as_slice()),
+        Stmt::For(name, _, _, body) => {
+            names.push(Row::from_slice(alloc, name.as_slice())?)?;
+            put_names(alloc, names, body.as_slice())
+        }
+        Stmt::Assign(..)
+        | Stmt::Print(_)
+        | Stmt::PrintText(_)
+        | Stmt::Spin(_)
+        | Stmt::Assert(_)
+        | Stmt::Halt(_) => Ok(()),
     }
 }
 

@@ -132,7 +132,7 @@ impl<'a> Scope<'a> {
     }
 
     /// Whether both are numbers.
-    fn are_numbers(&self, left: &Atom, right: &Atom) -> bool
+    pub fn are_numbers(&self, left: &Atom, right: &Atom) -> bool
         requires { IsIndexed self.now }
         ensures { result ≡ are_numbers (entries_of self.now) left.now right.now }
     {
@@ -148,6 +148,7 @@ impl<'a> Scope<'a> {
             Right::Just(atom) => self.has_kind(kind, atom),
             Right::Compare(_, a, b) => same_kind(kind, Kind::Truth) && self.are_numbers(a, b),
             Right::Apply(_, a, b) => same_kind(kind, Kind::Number) && self.are_numbers(a, b),
+            Right::Get => same_kind(kind, Kind::Number),
         }
     }
 

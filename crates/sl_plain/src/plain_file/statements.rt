@@ -1,6 +1,6 @@
 // Names and types in statements.
-ghost use Rattle.std.specs.Prelude.{◌≡◌, map, IfOk, OnOk, IsTrue};
-ghost use Rattle.sl_plain.specs.Plain.{scoped, scoped_in_order, block_fits, program_fits, where_so};
+ghost use Rattle.std.specs.Prelude.{◌≡◌, ◌∷◌, map, IfOk, OnOk, IsTrue};
+ghost use Rattle.sl_plain.specs.Plain.{counted, scoped, scoped_in_order, block_fits, program_fits, where_so};
 ghost use Rattle.sl_plain.specs.PlainReading.{entries_of, IsIndexed};
 
 use crate::line::Kind;
@@ -49,6 +49,30 @@ fn block_fits<'a>(scope: &mut Scope<'a>, block: &'a [Stmt]) -> Result<bool, Mem>
     Ok(true)
 }
 
+/// Whether the block of a `for` of this name fits. Then its names are out of the scope again.
+#[cycle(scopes)]
+fn counted_fits<'a>(scope: &mut Scope<'a>, name: &'a [u8], block: &'a [Stmt]) -> Result<bool, Mem>
+    requires { IsIndexed scope.old }
+    ensures indexed { OnOk result (IsIndexed scope.new) }
+    ensures fits { IfOk result (λ fits. fits ≡ block_fits (map scoped block.now) (counted name.now ∷ entries_of scope.old)) }
+    ensures kept { IfOk result (λ fits. IsTrue fits → entries_of scope.new ≡ entries_of scope.old) }
+{
+    let before = scope.len();
+    let kind = Kind::Number;
+    scope.declare(
+        name,
+        Variable {
+            is_var: false,
+            kind,
+        },
+    )?;
+    if !block_fits(scope, block)? {
+        return Ok(false);
+    }
+    scope.leave(before)?;
+    Ok(true)
+}
+
 /// Whether a statement fits. Then the name that it declares is in the scope.
 #[cycle(scopes)]
 #[tactic(auto, using(crate::proofs::Files::Scopes::scoped_rules))]
@@ -82,7 +106,19 @@ fn fits<'a>(scope: &mut Scope<'a>, stmt: &'a Stmt) -> Result<bool, Mem>
                 Some(other) => block_fits(scope, other.as_slice()),
             }
         }
-        Stmt::Assert(test) => Ok(scope.condition_fits(test)),
+        Stmt::While(test, body) => {
+            if !scope.condition_fits(test) {
+                return Ok(false);
+            }
+            block_fits(scope, body.as_slice())
+        }
+        Stmt::For(name, first, end, body) => {
+            if !scope.are_numbers(first, end) {
+                return Ok(false);
+            }
+            counted_fits(scope, name.as_slice(), body.as_slice())
+        }
+        Stmt::Spin(test) | Stmt::Assert(test) => Ok(scope.condition_fits(test)),
         Stmt::Halt(_) => Ok(true),
     }
 }

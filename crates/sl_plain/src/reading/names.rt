@@ -50,7 +50,7 @@ const WORDS: [&[u8]; 39] = [
     b"yield",
 ];
 
-/// The names that no declaration may take, of those that begin with a small letter.
+/// The names that no variable may have, of those that begin with a small letter.
 const RESERVED: [&[u8]; 6] = [
     b"conversions",
     b"print",

@@ -1,6 +1,6 @@
 // Atoms, and two atoms with a sign between them.
 ghost use Rattle.std.specs.Prelude.{◌≡◌, IfOk};
-ghost use Rattle.sl_plain.specs.LineReading.{sign_of, short_sign, long_sign, joined, joined_of, cut_at_space, right_of, condition_of, condition_in};
+ghost use Rattle.sl_plain.specs.LineReading.{sign_of, short_sign, long_sign, joined, joined_of, cut_at_space, single_of, right_of, condition_of, condition_in};
 
 use crate::line::{Atom, Condition, Right};
 use crate::reading::atoms::read_atom;
@@ -72,8 +72,18 @@ pub fn read_right(alloc: Global, bytes: &[u8]) -> Result<Option<Right>, Mem>
 {
     match cut_at_space(bytes) {
         Some((left, more)) => read_joined(alloc, left, more),
-        None => Ok(read_atom(alloc, bytes)?.map(Right::Just)),
+        None => read_single(alloc, bytes),
     }
+}
+
+/// What these bytes are on the right of a `=`, where they have no space: the input, or an atom.
+fn read_single(alloc: Global, bytes: &[u8]) -> Result<Option<Right>, Mem>
+    ensures { IfOk result (λ found. found ≡ single_of bytes.now) }
+{
+    if bytes == b"Port.get()".as_slice() {
+        return Ok(Some(Right::Get));
+    }
+    Ok(read_atom(alloc, bytes)?.map(Right::Just))
 }
 
 /// The bytes before the first space are an atom, and those behind it a sign, a space and an atom.
@@ -112,6 +122,6 @@ fn condition_of(right: Right) -> Option<Condition>
     match right {
         Right::Just(atom) => Some(Condition::Just(atom)),
         Right::Compare(by, left, right) => Some(Condition::Compare(by, left, right)),
-        Right::Apply(..) => None,
+        Right::Apply(..) | Right::Get => None,
     }
 }

@@ -1,8 +1,8 @@
-use Rattle.std.proofs.Common.{[], ◌∷◌, ◌++◌, map, sym, ap, subst, ◌∙◌, append-nil, flat_map}
-use Rattle.sl_plain.specs.Plain.{joined, declared_in}
+use Rattle.std.proofs.Common.{[], ◌∷◌, ◌++◌, false, map, sym, ap, subst, ◌∙◌, append-nil, flat_map}
+use Rattle.sl_plain.specs.Plain.{joined, declared_in, counted}
 use Rattle.sl_plain.specs.Numbering.{AreNumbered}
 use Rattle.sl_plain.proofs.Runs.{joined_map}
-use Rattle.sl_plain.proofs.Forms.{declared_of_declare, declared_of_assign, declared_of_print, declared_of_print_text, declared_of_if, declared_of_if_else, declared_of_assert, declared_of_halt, on_ok_so, declares_none, declares_then, declares_same}
+use Rattle.sl_plain.proofs.Forms.{declared_of_declare, declared_of_assign, declared_of_print, declared_of_print_text, declared_of_if, declared_of_if_else, declared_of_while, declared_of_spin, declared_of_for, declared_of_assert, declared_of_halt, on_ok_so, declares_none, declares_then, declares_same}
 use Rattle.sl_plain.proofs.lowering.declarations.+declare.Goals as goal
 
 pub declare_stmt-returns-in-Declare : goal.declare_stmt-returns-in-Declare
@@ -26,6 +26,25 @@ declare_stmt-returns-in-Some t c =
     (ap (flat_map declared_in) c.as_slice-in-If.ensures ∙ sym (joined_map declared_in c.in-If.chosen)) c.in_ok-declare_block-in-If.ensures)
     (declares_same (flat_map declared_in c.as_slice-in-Some.result.now) (joined (map declared_in c.in-Some.stmts)) c.declare_block.new.variables c.declare_block-in-Some.new.variables
     (ap (flat_map declared_in) c.as_slice-in-Some.ensures ∙ sym (joined_map declared_in c.in-Some.stmts)) second)))
+
+pub declare_stmt-returns-in-While : goal.declare_stmt-returns-in-While
+declare_stmt-returns-in-While t c =
+    rw (c.in-While.is, declared_of_while c.in-While.field-0 c.in-While.body)
+    (on_ok_so _ _ c.declare_block-in-While.result c.declare_block-in-While.ensures
+    (λ h. declares_same (flat_map declared_in c.as_slice-in-While.result.now) (joined (map declared_in c.in-While.body)) c.args.variables.now c.declare_block-in-While.new.variables
+    (ap (flat_map declared_in) c.as_slice-in-While.ensures ∙ sym (joined_map declared_in c.in-While.body)) h))
+
+pub declare_stmt-returns-in_ok-add-in-For : goal.declare_stmt-returns-in_ok-add-in-For
+declare_stmt-returns-in_ok-add-in-For t c =
+    rw (c.in-For.is, declared_of_for c.in-For.name c.in-For.field-1 c.in-For.field-2 c.in-For.body)
+    (on_ok_so _ _ c.declare_block-in-For.result c.declare_block-in-For.ensures
+    (λ h. declares_then (counted c.in-For.name ∷ []) (joined (map declared_in c.in-For.body)) c.args.variables.now c.add-in-For.new.self c.declare_block-in-For.new.variables
+    (λ before numbered. subst (λ name. AreNumbered (before ++ counted name ∷ []) c.add-in-For.new.self) c.as_slice-in-For.ensures (c.in_ok-add-in-For.ensures before false numbered))
+    (declares_same (flat_map declared_in c.as_slice-in-For-2.result.now) (joined (map declared_in c.in-For.body)) c.add-in-For.new.self c.declare_block-in-For.new.variables
+    (ap (flat_map declared_in) c.as_slice-in-For-2.ensures ∙ sym (joined_map declared_in c.in-For.body)) h)))
+
+pub declare_stmt-returns-in-Spin : goal.declare_stmt-returns-in-Spin
+declare_stmt-returns-in-Spin t c = rw c.in-Spin.is (declares_none _ _ (declared_of_spin _))
 
 pub declare_stmt-returns-in-Assign : goal.declare_stmt-returns-in-Assign
 declare_stmt-returns-in-Assign t c = rw c.in-Assign.is (declares_none _ _ (declared_of_assign _ _))

@@ -6,6 +6,6 @@ pub returns-in-Some : goal.returns-in-Some
 unfolding right_of
 returns-in-Some c = search rules
 
-pub returns-in_ok-read_atom-in-None : goal.returns-in_ok-read_atom-in-None
+pub returns-in-None : goal.returns-in-None
 unfolding right_of
-returns-in_ok-read_atom-in-None c = search rules
+returns-in-None c = search rules

@@ -1,7 +1,7 @@
 use Rattle.std.proofs.Common.{sym, ap, ◌∙◌}
 use Rattle.sl_plain.specs.Lowered.{variable}
 use Rattle.sl_plain.proofs.Numbered.{place_found, place_missing}
-use Rattle.sl_plain.proofs.lowering.expressions.lower_place.Goals as goal
+use Rattle.sl_plain.proofs.lowering.expressions.number_of.Goals as goal
 
 pub returns-in-Some : goal.returns-in-Some
 returns-in-Some c = λ names numbered. ap variable (place_found names c.args.variables.now c.args.name.now c.in-Some.variable numbered (sym c.in-Some.is ∙ c.get.ensures))
