@@ -10,6 +10,7 @@ use Rattle.sl_outside.specs.declared.folder.Refused.TheVariants as refused
 use Rattle.sl_outside.specs.Counts.{one_more}
 use Rattle.sl_outside.specs.Folder.{Contents, FolderCall, ReadCall, GoesOn, FolderState}
 use Rattle.sl_text.specs.declared.rule.Rule.{Rule}
+use Rattle.sl_outside.specs.Source.{SourceState}
 use Rattle.sl_outside.specs.Sink.{SinkState}
 use Rattle.sl_tool.specs.declared.source.SourceFile as found
 use Rattle.c_machine.specs.declared.ending.End.{End}
@@ -21,7 +22,7 @@ use Rattle.sl_plain.proofs.Reached.{in_reach}
 use Rattle.sl_tool.specs.Accepting.{IsAccepted, greatest_length, lexical}
 use Rattle.sl_tool.specs.declared.stop.Stop.TheVariants as stop
 use Rattle.sl_tool.specs.SourceFiles.{SourceFile, AreSources, AreAccepted, IsThere}
-use Rattle.sl_tool.specs.WordsReading.{names_seen}
+use Rattle.sl_words.specs.WordsReading.{names_seen}
 use Rattle.sl_tool.specs.Stopping.{stop_of}
 use Rattle.sl_tool.specs.Promise.{more_calls, reads_of, AskedAll, AskedUpTo}
 use Rattle.sl_tool.specs.Parts.{Finds, FindsSources, FindsAccepted, ReadsSources, ReadsProgram, RunsFiles, EmitsFiles, broken_name, sources_seen}
@@ -182,9 +183,9 @@ program_in_reach {program = program} finds =
         at false e = let most = ltb-false greatest_length (length source.bytes) e in omega arith
 
 -- memory ran out after a program was read, before it was run
-pub run_stopped : (names : List (List ℕ)) (program : Plain) (before after : FolderState) (out : SinkState) (result : Result End Stop) → IsErrAnd result (λ other. other ≡ stop.Mem) → FindsAccepted names (Some program) before after → RunsFiles names before after out out result
-run_stopped names program before after out (Ok end) is finds = absurd is
-run_stopped names program before after out (Err other) is finds = subst (λ other. RunsFiles names before after out out (Err other)) (sym is) (inl (inl (asked_all names finds.sources before after finds.finds), refl))
+pub run_stopped : (turns : ℕ) (names : List (List ℕ)) (program : Plain) (before after : FolderState) (source : SourceState) (out : SinkState) (result : Result End Stop) → IsErrAnd result (λ other. other ≡ stop.Mem) → FindsAccepted names (Some program) before after → RunsFiles turns names before after source source out out result
+run_stopped turns names program before after source out (Ok end) is finds = absurd is
+run_stopped turns names program before after source out (Err other) is finds = subst (λ other. RunsFiles turns names before after source source out out (Err other)) (sym is) (inl (inl (asked_all names finds.sources before after finds.finds), refl, refl))
 
 -- or written
 pub emit_stopped : (name : List ℕ) (names : List (List ℕ)) (program : Plain) (before after : FolderState) (out : SinkState) (result : Result (Unit {0}) Stop) → IsErrAnd result (λ other. other ≡ stop.Mem) → FindsAccepted names (Some program) before after → EmitsFiles name names before after out out result

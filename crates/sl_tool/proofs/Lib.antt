@@ -1,4 +1,3 @@
-pub mod Reading
 pub mod Accepted
 pub mod Sources
 pub mod Meant
@@ -7,6 +6,7 @@ pub mod Answering
 pub mod Noting
 pub mod Printing
 pub mod Told
+pub mod Inputs
 pub mod Asking
 pub mod ToldSources
 pub mod Writing

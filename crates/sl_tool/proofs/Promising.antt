@@ -1,7 +1,9 @@
 -- The parts of a promise, from what the folder held and what was put.
-use Rattle.std.proofs.Common.{◌≡◌, ℕ, List, Bool, true, false, Option, Some, None, refl, sym, ap, ◌∙◌, subst, inl, inr}
+use Rattle.std.proofs.Common.{◌≡◌, ℕ, List, [], ◌++◌, length, take, Bool, true, false, Option, Some, None, refl, sym, ap, ◌∙◌, subst, inl, inr}
+use Rattle.std.proofs.lemmas.List.{take-append-drop}
 use Rattle.std.specs.Prelude.{◌⊎◌, pos, negsuc, nat_le, if◌then◌else◌, Result, Ok, Err}
 use Rattle.sl_outside.specs.Folder.{Contents}
+use Rattle.sl_run.specs.Outcome.{asked}
 use Rattle.sl_run.specs.Run.{Ending, Done, Halt, TurnsSpent, StackSpent, Stuck}
 use Rattle.sl_tool.specs.declared.status.Status.{Status}
 use Rattle.sl_tool.specs.declared.status.Status.TheVariants.{Exit, Usage, Broken, NoFile, FolderFault, InputFault, SinkFault, Memory, NotBuilt}
@@ -10,15 +12,15 @@ use Rattle.sl_plain.specs.declared.tree.Plain.{Plain}
 use Rattle.sl_text.specs.declared.rule.Rule.{Rule}
 use Rattle.sl_tool.specs.SourceFiles.{SourceFile, sources_of, first_broken_of, program_of}
 use Rattle.sl_plain.specs.Means.{plain_run}
-use Rattle.sl_tool.specs.Words.{Command, Run, Emit, files_of, Reads, BeginsNoCommand}
-use Rattle.sl_tool.specs.WordsReading.{command_of}
+use Rattle.sl_words.specs.Words.{Command, Run, Emit, files_of, Reads, BeginsNoCommand}
+use Rattle.sl_words.specs.WordsReading.{command_of}
 use Rattle.sl_tool.specs.Texts.{usage_line, broken_line, no_file_line, not_built_line}
-use Rattle.sl_tool.specs.Answer.{Answer, answer_of, answer_to_plain, rejected, ran, default_turns, exit_status, run_status}
-use Rattle.sl_tool.specs.Outside.{Outside, FolderRose, OutRose, NoteRose}
+use Rattle.sl_tool.specs.Answer.{Answer, answer_of, answer_to_plain, rejected, ran, exit_status, run_status}
+use Rattle.sl_tool.specs.Outside.{Outside, FolderRose, InputRose, OutRose, NoteRose}
 use Rattle.sl_tool.specs.Promise.{IsUnlessMemory, HoldsPlain, Did, Complete, Finished, RanAs, Runs, Emits, ends_with, Cause, Comes, HidesNoFault, CountsGrow, GoesNoFurther, Acts, Noted, Keeps}
-use Rattle.sl_tool.proofs.Reading.{command_of_reading, no_command}
+use Rattle.sl_words.proofs.Reading.{command_of_reading, no_command}
 use Rattle.sl_tool.proofs.Sources.{missing_found, sources_found, accepted_found, broken_found, program_found, found_program, no_program_found}
-use Rattle.sl_plain.proofs.Rest.{rest_kept}
+use Rattle.sl_plain.proofs.Rest.{rest_is}
 use Rattle.sl_tool.proofs.Answering.{answer_usage, answer_broken, answer_no_file, answer_not_built, answer_plain}
 
 -- the answer to a plain file
@@ -55,17 +57,19 @@ by_answer words files input P usage no_file broken not_built plain = at_command 
     at_command None e = is _ (answer_usage words files input e) (usage e)
     at_command (Some command) e = at_files command e (sources_of files (files_of command)) refl
 
--- what an answer leaves of the input: all of it, since no plain program reads
-pub answer_rest : (words : List (List ℕ)) (files : Contents) (input : List ℕ) → (answer_of words files input).rest ≡ input
-answer_rest words files input = by_answer words files input (λ answer. answer.rest ≡ input) (λ _. refl) (λ _. refl) (λ _ _. refl) refl at
+-- what an answer leaves of the input is what stands behind some of it
+pub answer_suffix : (words : List (List ℕ)) (files : Contents) (input : List ℕ) → (more : List ℕ) × (input ≡ more ++ (answer_of words files input).rest)
+answer_suffix words files input = by_answer words files input (λ answer. (more : List ℕ) × (input ≡ more ++ answer.rest)) (λ _. ([], refl)) (λ _. ([], refl)) (λ _ _. ([], refl)) ([], refl) at
   where
-    at : (command : Command) (program : Plain) → (answer_to_plain command program files input).rest ≡ input
-    at (Run names) program = rest_kept program input default_turns
-    at (Emit name names) program = refl
+    at : (command : Command) (program : Plain) → (more : List ℕ) × (input ≡ more ++ (answer_to_plain command program files input).rest)
+    at (Run turns names) program =
+        let n = length (asked (plain_run program input turns).events) in
+        (take n input, sym (ap (λ rest. take n input ++ rest) (rest_is program input turns) ∙ take-append-drop n input))
+    at (Emit name names) program = ([], refl)
 
 -- a command on a plain program has the status with which it ends
 pub gives_status : (command : Command) (program : Plain) (files : Contents) (input : List ℕ) → (answer_to_plain command program files input).status ≡ ends_with command program input
-gives_status (Run names) program files input = refl
+gives_status (Run turns names) program files input = refl
 gives_status (Emit name names) program files input = refl
 
 -- neither of two
@@ -75,52 +79,53 @@ neither a b (inr h) = b h
 
 -- a fault that a status yields to
 abbrev pub Excused : Outside → Outside → Status → Type 0
-Excused before after (Exit value) = FolderRose before after ⊎ OutRose before after
+Excused before after (Exit value) = FolderRose before after ⊎ InputRose before after ⊎ OutRose before after
 Excused before after Usage = NoteRose before after
 Excused before after Broken = FolderRose before after ⊎ NoteRose before after
 Excused before after NoFile = FolderRose before after ⊎ NoteRose before after
 Excused before after NotBuilt = FolderRose before after
-Excused before after other = FolderRose before after ⊎ OutRose before after ⊎ NoteRose before after
+Excused before after other = FolderRose before after ⊎ InputRose before after ⊎ OutRose before after ⊎ NoteRose before after
 
--- the status of a run yields to a fault of the folder, and to one of `out`
-pub run_yields : (before after : Outside) (ending : Ending) → FolderRose before after ⊎ OutRose before after → Excused before after (run_status ending)
+-- a fault that every status of a run yields to
+abbrev pub RunFailed : Outside → Outside → Type 0
+RunFailed before after = FolderRose before after ⊎ InputRose before after ⊎ OutRose before after
+
+-- so do the others
+with_note : (before after : Outside) → RunFailed before after → FolderRose before after ⊎ InputRose before after ⊎ OutRose before after ⊎ NoteRose before after
+with_note before after (inl h) = inl h
+with_note before after (inr (inl h)) = inr (inl h)
+with_note before after (inr (inr h)) = inr (inr (inl h))
+
+-- the status of a run yields to a fault of the folder, of the input and of `out`
+pub run_yields : (before after : Outside) (ending : Ending) → RunFailed before after → Excused before after (run_status ending)
 run_yields before after (Done (pos value)) rose = at (nat_le value 63)
   where
     at : (small : Bool) → Excused before after (if small then Exit value else status.ExitValue)
     at true = rose
-    at false = more rose
-      where
-        more : FolderRose before after ⊎ OutRose before after → FolderRose before after ⊎ OutRose before after ⊎ NoteRose before after
-        more (inl h) = inl h
-        more (inr h) = inr (inl h)
-run_yields before after (Done (negsuc below)) (inl h) = inl h
-run_yields before after (Done (negsuc below)) (inr h) = inr (inl h)
-run_yields before after (Halt kind file line) (inl h) = inl h
-run_yields before after (Halt kind file line) (inr h) = inr (inl h)
-run_yields before after TurnsSpent (inl h) = inl h
-run_yields before after TurnsSpent (inr h) = inr (inl h)
-run_yields before after StackSpent (inl h) = inl h
-run_yields before after StackSpent (inr h) = inr (inl h)
-run_yields before after (Stuck function) (inl h) = inl h
-run_yields before after (Stuck function) (inr h) = inr (inl h)
+    at false = with_note before after rose
+run_yields before after (Done (negsuc below)) rose = with_note before after rose
+run_yields before after (Halt kind file line) rose = with_note before after rose
+run_yields before after TurnsSpent rose = with_note before after rose
+run_yields before after StackSpent rose = with_note before after rose
+run_yields before after (Stuck function) rose = with_note before after rose
 
--- with no fault of any of the three, no status yields
-none_yields : (before after : Outside) → ¬ FolderRose before after → ¬ OutRose before after → ¬ NoteRose before after → (meant : Status) → ¬ Excused before after meant
-none_yields before after folder out note (Exit value) = neither folder out
-none_yields before after folder out note Usage = note
-none_yields before after folder out note Broken = neither folder note
-none_yields before after folder out note status.Halted = neither folder (neither out note)
-none_yields before after folder out note status.TurnsSpent = neither folder (neither out note)
-none_yields before after folder out note status.StackSpent = neither folder (neither out note)
-none_yields before after folder out note status.ExitValue = neither folder (neither out note)
-none_yields before after folder out note status.NotC = neither folder (neither out note)
-none_yields before after folder out note status.Stuck = neither folder (neither out note)
-none_yields before after folder out note NoFile = neither folder note
-none_yields before after folder out note FolderFault = neither folder (neither out note)
-none_yields before after folder out note InputFault = neither folder (neither out note)
-none_yields before after folder out note SinkFault = neither folder (neither out note)
-none_yields before after folder out note Memory = neither folder (neither out note)
-none_yields before after folder out note NotBuilt = folder
+-- with no fault of any of the four, no status yields
+none_yields : (before after : Outside) → ¬ FolderRose before after → ¬ InputRose before after → ¬ OutRose before after → ¬ NoteRose before after → (meant : Status) → ¬ Excused before after meant
+none_yields before after folder input out note (Exit value) = neither folder (neither input out)
+none_yields before after folder input out note Usage = note
+none_yields before after folder input out note Broken = neither folder note
+none_yields before after folder input out note status.Halted = neither folder (neither input (neither out note))
+none_yields before after folder input out note status.TurnsSpent = neither folder (neither input (neither out note))
+none_yields before after folder input out note status.StackSpent = neither folder (neither input (neither out note))
+none_yields before after folder input out note status.ExitValue = neither folder (neither input (neither out note))
+none_yields before after folder input out note status.NotC = neither folder (neither input (neither out note))
+none_yields before after folder input out note status.Stuck = neither folder (neither input (neither out note))
+none_yields before after folder input out note NoFile = neither folder note
+none_yields before after folder input out note FolderFault = neither folder (neither input (neither out note))
+none_yields before after folder input out note InputFault = neither folder (neither input (neither out note))
+none_yields before after folder input out note SinkFault = neither folder (neither input (neither out note))
+none_yields before after folder input out note Memory = neither folder (neither input (neither out note))
+none_yields before after folder input out note NotBuilt = folder
 
 -- the status is the one that was meant, or memory ran out, or there was a fault that it yields to
 abbrev pub Settles : Outside → Outside → Status → Status → Type 0
@@ -134,15 +139,15 @@ settled before after meant status calm (inr h) = absurd (calm h)
 module _ (words : List (List ℕ)) (files : Contents) (input : List ℕ) (before after : Outside) (status : Status) where
   -- a complete call of `run` on a plain file ran its program
   runs : Complete words files input before after status → Runs words files input before after status
-  runs complete names program reads held calm = at (complete calm)
+  runs complete turns names program reads held calm = at (complete calm)
     where
-      same : answer_of words files input ≡ ran names (plain_run program input default_turns) files
-      same = answer_held words files input (Run names) program (command_of_reading words (Run names) reads) held
+      same : answer_of words files input ≡ ran names (plain_run program input turns) files
+      same = answer_held words files input (Run turns names) program (command_of_reading words (Run turns names) reads) held
 
-      ran_as : Did (ran names (plain_run program input default_turns) files) before after status → RanAs (plain_run program input default_turns) before after status
+      ran_as : Did (ran names (plain_run program input turns) files) before after status → RanAs (plain_run program input turns) before after status
       ran_as did = record { ended = did.same_status; printed_bytes = did.out; rest = did.rest }
 
-      at : Did (answer_of words files input) before after status ⊎ (status ≡ Memory) → RanAs (plain_run program input default_turns) before after status ⊎ (status ≡ Memory)
+      at : Did (answer_of words files input) before after status ⊎ (status ≡ Memory) → RanAs (plain_run program input turns) before after status ⊎ (status ≡ Memory)
       at (inl did) = inl (ran_as (subst (λ answer. Did answer before after status) same did))
       at (inr memory) = inr memory
 
@@ -165,10 +170,10 @@ module _ (words : List (List ℕ)) (files : Contents) (input : List ℕ) (before
         (meant Broken (ap (λ answer. answer.status) (answer_broken words files input command sources source rule (command_of_reading words command reads) (sources_found files (files_of command) sources are) (broken_found sources source rule place first).0)));
     ends = λ other ends calm dry quiet hush.
         let (command, program, reads, held, gives) = ends in
-        settled before after other status (none_yields before after calm quiet hush other) (meant other (ended command program reads held ∙ gives));
+        settled before after other status (none_yields before after calm dry quiet hush other) (meant other (ended command program reads held ∙ gives));
     exit = λ value ends calm dry quiet.
         let (command, program, reads, held, gives) = ends in
-        settled before after (Exit value) status (neither calm quiet) (meant (Exit value) (ended command program reads held ∙ gives));
+        settled before after (Exit value) status (neither calm (neither dry quiet)) (meant (Exit value) (ended command program reads held ∙ gives));
   }
     where
       meant : (other : Status) → (answer_of words files input).status ≡ other → Settles before after other status
@@ -178,8 +183,8 @@ module _ (words : List (List ℕ)) (files : Contents) (input : List ℕ) (before
       ended command program reads held = ap (λ answer. answer.status) (answer_held words files input command program (command_of_reading words command reads) held) ∙ gives_status command program files input
 
   -- the whole promise, of its parts
-  pub keeps : Complete words files input before after status → Finished words files input before after status → Emits words files before after status → Cause words files input before after status → Settles before after (answer_of words files input).status status → (BeginsNoCommand words → ¬ NoteRose before after → status ≡ Usage) → HidesNoFault before after status → CountsGrow before after → GoesNoFurther (answer_of words files input) input before after → Acts words files (answer_of words files input) before after status → Noted words files input before after status → after.input ≡ before.input → Keeps words files input before after status
-  keeps complete finished emits cause all at_once hides counts stands acts noted untouched = record {
+  pub keeps : Complete words files input before after status → Finished words files input before after status → Emits words files before after status → Cause words files input before after status → Settles before after (answer_of words files input).status status → (BeginsNoCommand words → ¬ NoteRose before after → status ≡ Usage) → HidesNoFault before after status → CountsGrow before after → GoesNoFurther (answer_of words files input) input before after → Acts words files input (answer_of words files input) before after status → Noted words files input before after status → Keeps words files input before after status
+  keeps complete finished emits cause all at_once hides counts stands acts noted = record {
     complete = complete;
     finished = finished;
     run = runs complete;
@@ -191,5 +196,4 @@ module _ (words : List (List ℕ)) (files : Contents) (input : List ℕ) (before
     stands = stands;
     acts = acts;
     noted = noted;
-    untouched = untouched;
   }

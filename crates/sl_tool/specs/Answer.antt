@@ -12,8 +12,8 @@ use Rattle.sl_tool.specs.Accepting.{line_at, column_at}
 use Rattle.sl_tool.specs.SourceFiles.{SourceFile, sources_of, first_broken_of, program_of}
 use Rattle.sl_plain.specs.Means.{plain_run}
 use Rattle.sl_tool.specs.Written.{written}
-use Rattle.sl_tool.specs.Words.{Command, Run, Emit, files_of}
-use Rattle.sl_tool.specs.WordsReading.{command_of}
+use Rattle.sl_words.specs.Words.{Command, Run, Emit, files_of}
+use Rattle.sl_words.specs.WordsReading.{command_of}
 use Rattle.sl_tool.specs.Texts.{emitted_line, usage_line, broken_line, no_file_line, file_name, halt_line, turns_spent_line, stack_spent_line, exit_value_line, not_built_line}
 
 -- the exit status of the process
@@ -41,10 +41,6 @@ pub record Answer : Type 0 where
   pub out : List ℕ
   pub note : List ℕ
   pub rest : List ℕ
-
--- how many turns a run has where no option says it
-abbrev pub default_turns : ℕ
-default_turns = 1000000000
 
 -- the status of an exit value: 0 to 63 are exit values of the tool
 abbrev pub exit_status : ℤ → Status
@@ -94,7 +90,7 @@ emitted name text files input = record { status = status.Exit 0; files = with_fi
 
 -- what a command does with a plain program
 abbrev pub answer_to_plain : Command → Plain → Contents → List ℕ → Answer
-answer_to_plain (Run names) program files input = ran names (plain_run program input default_turns) files
+answer_to_plain (Run turns names) program files input = ran names (plain_run program input turns) files
 answer_to_plain (Emit name names) program files input = emitted name (written program) files input
 
 -- a command's answer to what was read: a plain program, or something that isn't built yet

@@ -1,8 +1,6 @@
 pub mod Accepting
 pub mod SourceFiles
 pub mod Written
-pub mod Words
-pub mod WordsReading
 pub mod Texts
 pub mod Answer
 pub mod Outside

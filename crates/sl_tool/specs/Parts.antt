@@ -1,22 +1,23 @@
 -- What the private functions of the crate owe.
-use Rattle.std.specs.Prelude.{◌≡◌, ◌≢◌, ◌⊎◌, ℕ, List, [], length, map, option_map, Option, Some, None, IfSome, Result, Ok, Err, Bool, true, false}
+use Rattle.std.specs.Prelude.{◌≡◌, ◌≢◌, ◌⊎◌, ℕ, List, [], ◌∷◌, ◌++◌, length, map, option_map, Option, Some, None, IfSome, Result, Ok, Err, Bool, true, false}
 use Rattle.std.specs.Borrow.{Bor}
 use Rattle.sl_outside.specs.declared.folder.Refused.{Refused}
 use Rattle.sl_outside.specs.declared.folder.Refused.TheVariants as refused
 use Rattle.sl_outside.specs.declared.source.Failed.{Failed}
 use Rattle.sl_outside.specs.Folder.{Contents, GoesOn, FolderState}
-use Rattle.sl_outside.specs.Sink.{IsPrefix, SinkState, Put, Tried, Prints}
+use Rattle.sl_outside.specs.Source.{SourceState}
+use Rattle.sl_outside.specs.Sink.{SinkState, Put, Tried, Prints}
 use Rattle.c_tree.specs.Text.{CText}
 use Rattle.c_write.specs.Lined.{lined}
 use Rattle.sl_tool.specs.declared.stop.Stop.{Stop}
 use Rattle.sl_tool.specs.declared.stop.Stop.TheVariants as stop
 use Rattle.sl_tool.specs.declared.source.SourceFile as found
 use Rattle.sl_tool.specs.declared.status.Status.{Status}
-use Rattle.sl_tool.specs.declared.status.Status.TheVariants.{Exit, Broken, NoFile, FolderFault, SinkFault, Memory, NotBuilt}
+use Rattle.sl_tool.specs.declared.status.Status.TheVariants.{Exit, Broken, NoFile, FolderFault, InputFault, SinkFault, Memory, NotBuilt}
 use Rattle.sl_plain.specs.declared.tree.Plain.{Plain}
 use Rattle.sl_text.specs.declared.rule.Rule.{Rule}
 use Rattle.sl_tool.specs.SourceFiles.{SourceFile, names_of, AreSources, first_broken_of, program_of}
-use Rattle.sl_run.specs.Run.{Stuck}
+use Rattle.sl_run.specs.Run.{Stuck, Event, Puts, Asks}
 use Rattle.sl_tool.specs.Written.{tree_of, written, IsTreeOf}
 use Rattle.c_machine.specs.declared.ending.End.{End}
 use Rattle.c_machine.specs.declared.ending.End.TheVariants as end
@@ -27,9 +28,11 @@ use Rattle.c_tree.specs.declared.tree.CFile.{CFile}
 use Rattle.c_tree.specs.Meaning.{c_run}
 use Rattle.sl_run.specs.Outcome.{Outcome, printed}
 use Rattle.sl_plain.specs.Means.{plain_run}
-use Rattle.sl_tool.specs.Answer.{c_name, default_turns, run_status, run_line}
+use Rattle.sl_tool.specs.Answer.{c_name, run_status, run_line}
 use Rattle.sl_tool.specs.Promise.{more_calls, reads_of, AskedUpTo, AskedForSome, AskedAndWrote}
-use Rattle.sl_tool.specs.Texts.{emitted_line, broken_line, no_file_line, folder_fault_line, output_fault_line, no_memory_line, not_built_line}
+use Rattle.c_machine.specs.Outside.{AsksInput, BeginsWith}
+use Rattle.sl_tool.specs.Outside.{IsTold}
+use Rattle.sl_tool.specs.Texts.{emitted_line, broken_line, no_file_line, folder_fault_line, input_fault_line, output_fault_line, no_memory_line, not_built_line}
 
 -- a line was put, or it was refused, and the line that says so was tried
 abbrev pub Tells : List ℕ → Status → SinkState → SinkState → Status → Type 0
@@ -95,6 +98,7 @@ StopsFor names before after (stop.NoFile name) = FindsMissing names name.now bef
 StopsFor names before after (stop.Broken name rule) = FindsBroken names name.now rule before after
 StopsFor names before after stop.NotBuilt = FindsAccepted names None before after
 StopsFor names before after stop.Folder = FailsAtSome names before after
+StopsFor names before after stop.Input = ⊥
 StopsFor names before after stop.Sink = ⊥
 StopsFor names before after stop.Mem = AskedForSome names before after
 
@@ -108,38 +112,40 @@ abbrev pub ReadsProgram : List (List ℕ) → FolderState → FolderState → Re
 ReadsProgram names before after (Ok program) = FindsAccepted names (Some program) before after
 ReadsProgram names before after (Err stop) = StopsFor names before after stop
 
--- the run of a program, which asks for no input
-abbrev pub run_of : Plain → Outcome
-run_of program = plain_run program [] default_turns
+-- A run on this input was done up to its end, and the source has what the run leaves, where it tells that. Or up to an asking that
+-- failed, or to a byte that was refused, or, where memory ran out, up to anything
+abbrev pub Ran : (input : List ℕ) → Outcome → SourceState → SourceState → SinkState → SinkState → Result End StepFault → Type 0
+Ran input run source source' out out' (Ok end) =
+    (ending_of end ≡ run.ending) × Prints (printed run.events) out out' (Ok tt) × AsksInput input run.events source source' (Ok tt) × IfSome source.left (λ _. source'.left ≡ Some run.rest)
+Ran input run source source' out out' (Err fault.Input) =
+    (events : List Event) × BeginsWith run (events ++ Asks ∷ []) × Prints (printed events) out out' (Ok tt) × AsksInput input events source source' (Err (record {}))
+Ran input run source source' out out' (Err fault.Sink) =
+    (events : List Event) × (byte : ℕ) × BeginsWith run (events ++ Puts byte ∷ []) × Prints (printed events ++ byte ∷ []) out out' (Err (record {})) × AsksInput input events source source' (Ok tt)
+Ran input run source source' out out' (Err fault.Mem) =
+    (events : List Event) × BeginsWith run events × Prints (printed events) out out' (Ok tt) × AsksInput input events source source' (Ok tt)
 
--- A run was done, and its bytes were put, each by a call of its own, up to the first that failed. Where memory ran out, some of them
--- were
-abbrev pub Ran : Outcome → SinkState → SinkState → Result End StepFault → Type 0
-Ran run out out' (Ok end) = (ending_of end ≡ run.ending) × Prints (printed run.events) out out' (Ok tt)
-Ran run out out' (Err fault.Sink) = Prints (printed run.events) out out' (Err (record {}))
-Ran run out out' (Err fault.Mem) = (prefix : List ℕ) × IsPrefix prefix (printed run.events) × Prints prefix out out' (Ok tt)
-Ran run out out' (Err fault.Input) = ⊥
-
--- so the run of a tree was done, with no limit of the stack, on whatever input
-abbrev pub RanTree : CFile → SinkState → SinkState → Result End StepFault → Type 0
-RanTree tree out out' result = (input : List ℕ) → Ran (c_run tree None input default_turns) out out' result
+-- so the run of a tree was done, with no limit of the stack, in at most so many turns, on some input, which is what the source told
+abbrev pub RanTree : CFile → (turns : ℕ) → SourceState → SourceState → SinkState → SinkState → Result End StepFault → Type 0
+RanTree tree turns source source' out out' result = (input : List ℕ) × IsTold source.left input × Ran input (c_run tree None input turns) source source' out out' result
 
 -- and so that of a program
-abbrev pub RanProgram : Plain → SinkState → SinkState → Result End StepFault → Type 0
-RanProgram program out out' result = (input : List ℕ) → Ran (plain_run program input default_turns) out out' result
+abbrev pub RanProgram : Plain → (turns : ℕ) → SourceState → SourceState → SinkState → SinkState → Result End StepFault → Type 0
+RanProgram program turns source source' out out' result = (input : List ℕ) × IsTold source.left input × Ran input (plain_run program input turns) source source' out out' result
 
 -- how a run ended isn't an undefined case
 abbrev pub IsDefined : End → Type 0
 IsDefined end = (function : ℕ) → ending_of end ≢ Stuck function
 
--- a program was run, or wasn't
-abbrev pub RunsFiles : List (List ℕ) → FolderState → FolderState → SinkState → SinkState → Result End Stop → Type 0
-RunsFiles names before after out out' (Ok end) = (program : Plain) × FindsAccepted names (Some program) before after × RanProgram program out out' (Ok end) × IsDefined end
-RunsFiles names before after out out' (Err stop.Sink) = (program : Plain) × FindsAccepted names (Some program) before after × RanProgram program out out' (Err fault.Sink)
-RunsFiles names before after out out' (Err stop.Mem) =
-    (AskedForSome names before after × (out' ≡ out))
-    ⊎ ((program : Plain) × FindsAccepted names (Some program) before after × RanProgram program out out' (Err fault.Mem))
-RunsFiles names before after out out' (Err stop) = StopsFor names before after stop × (out' ≡ out)
+-- A program was run in at most so many turns, or wasn't
+abbrev pub RunsFiles : (turns : ℕ) → List (List ℕ) → FolderState → FolderState → SourceState → SourceState → SinkState → SinkState → Result End Stop → Type 0
+RunsFiles turns names before after source source' out out' (Ok end) =
+    (program : Plain) × FindsAccepted names (Some program) before after × RanProgram program turns source source' out out' (Ok end) × IsDefined end
+RunsFiles turns names before after source source' out out' (Err stop.Input) = (program : Plain) × FindsAccepted names (Some program) before after × RanProgram program turns source source' out out' (Err fault.Input)
+RunsFiles turns names before after source source' out out' (Err stop.Sink) = (program : Plain) × FindsAccepted names (Some program) before after × RanProgram program turns source source' out out' (Err fault.Sink)
+RunsFiles turns names before after source source' out out' (Err stop.Mem) =
+    (AskedForSome names before after × (source' ≡ source) × (out' ≡ out))
+    ⊎ ((program : Plain) × FindsAccepted names (Some program) before after × RanProgram program turns source source' out out' (Err fault.Mem))
+RunsFiles turns names before after source source' out out' (Err stop) = StopsFor names before after stop × (source' ≡ source) × (out' ≡ out)
 
 -- this program was read, and then its C was written, which the folder answered so
 pub record WritesProgram (name : List ℕ) (names : List (List ℕ)) (program : Plain) (before after : FolderState) (result : Result (Unit {0}) Refused) : Type 0 where
@@ -177,6 +183,7 @@ TellsStop (stop.NoFile name) before after status = MakesAndTells (no_file_line n
 TellsStop (stop.Broken name rule) before after status = MakesAndTells (broken_line name.now 1 1 rule) Broken before after status
 TellsStop stop.NotBuilt before after status = Tried not_built_line before after × (status ≡ NotBuilt)
 TellsStop stop.Folder before after status = Tried folder_fault_line before after × (status ≡ FolderFault)
+TellsStop stop.Input before after status = Tried input_fault_line before after × (status ≡ InputFault)
 TellsStop stop.Sink before after status = Tried output_fault_line before after × (status ≡ SinkFault)
 TellsStop stop.Mem before after status = Tried no_memory_line before after × (status ≡ Memory)
 

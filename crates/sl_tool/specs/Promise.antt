@@ -8,10 +8,11 @@ use Rattle.sl_outside.specs.declared.folder.Refused.{Refused}
 use Rattle.sl_outside.specs.declared.folder.Refused.TheVariants as refused
 use Rattle.sl_outside.specs.Counts.{one_more}
 use Rattle.sl_outside.specs.Folder.{Contents, FolderCall, ReadCall, WriteCall, GoesOn, WriteGives, FolderState}
+use Rattle.c_machine.specs.Outside.{AsksInput, BeginsWith}
 use Rattle.sl_outside.specs.Sink.{IsPrefix, SinkState, Put, Tried, Prints}
-use Rattle.sl_run.specs.Run.{Done}
+use Rattle.sl_run.specs.Run.{Event, Puts, Asks}
 use Rattle.sl_run.specs.Run as ending
-use Rattle.sl_run.specs.Outcome.{Outcome, printed}
+use Rattle.sl_run.specs.Outcome.{Outcome, printed, asked}
 use Rattle.c_tree.specs.declared.tree.CFile.{CFile}
 use Rattle.c_tree.specs.Text.{CText}
 use Rattle.c_tree.specs.Rules.{KeepsRules}
@@ -24,9 +25,9 @@ use Rattle.sl_tool.specs.Accepting.{line_at, column_at}
 use Rattle.sl_tool.specs.SourceFiles.{SourceFile, names_of, AreSources, IsThere, IsFirstMissing, AreAccepted, IsFirstBrokenOf, ArePlain}
 use Rattle.sl_plain.specs.Means.{plain_run}
 use Rattle.sl_tool.specs.Written.{written}
-use Rattle.sl_tool.specs.Words.{Command, Run, Emit, files_of, Reads, HasNoReading, BeginsNoCommand}
-use Rattle.sl_tool.specs.Texts.{broken_line, usage_line, no_file_line, folder_fault_line, output_fault_line, no_memory_line, not_built_line}
-use Rattle.sl_tool.specs.Answer.{Answer, answer_of, default_turns, run_status, run_line, c_name, with_file}
+use Rattle.sl_words.specs.Words.{Command, Run, Emit, files_of, Reads, HasNoReading, BeginsNoCommand}
+use Rattle.sl_tool.specs.Texts.{broken_line, usage_line, no_file_line, folder_fault_line, input_fault_line, output_fault_line, no_memory_line, not_built_line}
+use Rattle.sl_tool.specs.Answer.{Answer, answer_of, run_status, run_line, c_name, with_file}
 use Rattle.sl_tool.specs.Outside.{Outside, IsTold, FolderRose, InputRose, OutRose, NoteRose, NothingFailed}
 
 -- it is this status, or `Memory`, which may come at any time
@@ -77,8 +78,8 @@ pub record RanAs (run : Outcome) (before after : Outside) (status : Status) : Ty
 -- where nothing failed, `run` of one plain file prints, reads and ends as the program does, or its status is `Memory`
 abbrev pub Runs : List (List ℕ) → Contents → List ℕ → Outside → Outside → Status → Type 0
 Runs words files input before after status =
-    (names : List (List ℕ)) (program : Plain) → Reads words (Run names) → HoldsPlain files names program →
-    NothingFailed before after → RanAs (plain_run program input default_turns) before after status ⊎ (status ≡ Memory)
+    (turns : ℕ) (names : List (List ℕ)) (program : Plain) → Reads words (Run turns names) → HoldsPlain files names program →
+    NothingFailed before after → RanAs (plain_run program input turns) before after status ⊎ (status ≡ Memory)
 
 -- Bytes written -------------------------------------------------------------------------------------------------------
 
@@ -132,7 +133,7 @@ AsksForUnbuilt words files =
 
 -- the status with which a command ends on a plain program: that of the program's run, and 0 for `emit`
 abbrev pub ends_with : Command → Plain → List ℕ → Status
-ends_with (Run names) program input = run_status (plain_run program input default_turns).ending
+ends_with (Run turns names) program input = run_status (plain_run program input turns).ending
 ends_with (Emit name names) program input = Exit 0
 
 -- the words ask for something that ends so
@@ -153,11 +154,11 @@ Cause words files input before after Broken = (source : SourceFile) × (rule : R
 Cause words files input before after Halted = EndsWith words files input Halted
 Cause words files input before after TurnsSpent = EndsWith words files input TurnsSpent
 Cause words files input before after ExitValue = EndsWith words files input ExitValue
+Cause words files input before after InputFault = InputRose before after
 -- the other statuses don't come yet
 Cause words files input before after StackSpent = ⊥
 Cause words files input before after NotC = ⊥
 Cause words files input before after Stuck = ⊥
-Cause words files input before after InputFault = ⊥
 
 -- and where its cause stands the status comes, but for want of memory and for a fault on the way. That the first word isn't that of
 -- a command takes no memory to see
@@ -180,14 +181,15 @@ pub record HidesNoFault (before after : Outside) (status : Status) : Type 0 wher
   pub out : ¬ FolderRose before after → ¬ InputRose before after → before.out.faults < after.out.faults → status ≡ SinkFault
   pub note : ¬ FolderRose before after → ¬ InputRose before after → before.note.faults < after.note.faults → IsUnlessMemory status SinkFault ⊎ (status ≡ NotBuilt)
 
--- Counts of faults never fall. The first fault of the folder or of `out` is the last call of it; `note` may fail twice, since a
--- line that it refused is followed by that of the fault
+-- Counts of faults never fall. The first fault of the folder, of the input or of `out` is the last call of it; `note` may fail twice,
+-- since a line that it refused is followed by that of the fault
 pub record CountsGrow (before after : Outside) : Type 0 where
   pub folder : before.folder.faults ≤ after.folder.faults
   pub input : before.input.faults ≤ after.input.faults
   pub out : before.out.faults ≤ after.out.faults
   pub note : before.note.faults ≤ after.note.faults
   pub folder_once : after.folder.faults ≤ before.folder.faults + 1
+  pub input_once : after.input.faults ≤ before.input.faults + 1
   pub out_once : after.out.faults ≤ before.out.faults + 1
   pub note_twice : after.note.faults ≤ before.note.faults + 2
 
@@ -251,6 +253,11 @@ pub record AskedAndWrote (names : List (List ℕ)) (name bytes : List ℕ) (resu
   pub named : names_of sources ≡ names
   pub log : GoesOn before.log after.log (reads_of sources ++ WriteCall name bytes result ∷ [])
 
+-- the files have sources under these names, and one of them breaks a rule
+abbrev pub HoldsBroken : Contents → List (List ℕ) → Type 0
+HoldsBroken files names =
+    (sources : List SourceFile) × (source : SourceFile) × (rule : Rule) × (place : ℕ) × AreSources files names sources × IsFirstBrokenOf sources source rule place
+
 -- how the names were asked for where the command stopped before it ran or wrote anything, by the status. The folder isn't called
 -- where memory runs out in reading the words
 abbrev pub Stopped : List (List ℕ) → Contents → Outside → Outside → Status → Type 0
@@ -260,26 +267,38 @@ Stopped names files before after NoFile = (name : List ℕ) × (files name ≡ N
 Stopped names files before after FolderFault = (name : List ℕ) × AskedUpTo names name (Err refused.Failed) before.folder after.folder
 Stopped names files before after SinkFault =
     NoteRose before after
-    × (AskedAll names before.folder after.folder ⊎ ((name : List ℕ) × (files name ≡ None) × AskedUpTo names name (Ok None) before.folder after.folder))
+    × ((AskedAll names before.folder after.folder × HoldsBroken files names) ⊎ ((name : List ℕ) × (files name ≡ None) × AskedUpTo names name (Ok None) before.folder after.folder))
 Stopped names files before after Memory = (after.folder ≡ before.folder) ⊎ AskedForSome names before.folder after.folder
 Stopped names files before after other = ⊥
 
--- How a run put what it printed on `out`, by the status: byte by byte, each by a call of its own, up to the first that failed. Where
--- the line of a run was refused by `note`, all was put before
-abbrev pub Printed : Answer → Outside → Outside → Status → Type 0
-Printed answer before after (Exit value) = Prints answer.out before.out after.out (Ok tt)
-Printed answer before after Halted = Prints answer.out before.out after.out (Ok tt)
-Printed answer before after TurnsSpent = Prints answer.out before.out after.out (Ok tt)
-Printed answer before after ExitValue = Prints answer.out before.out after.out (Ok tt)
-Printed answer before after SinkFault = Prints answer.out before.out after.out (Err (record {})) ⊎ (NoteRose before after × Prints answer.out before.out after.out (Ok tt))
-Printed answer before after Memory = (prefix : List ℕ) × IsPrefix prefix answer.out × Prints prefix before.out after.out (Ok tt)
-Printed answer before after other = ⊥
+-- these events were done: each byte was put by a call of its own, and each asking was one call of the input, and none failed
+pub record Done (input : List ℕ) (events : List Event) (before after : Outside) : Type 0 where
+  pub put : Prints (printed events) before.out after.out (Ok tt)
+  pub got : AsksInput input events before.input after.input (Ok tt)
 
--- what `run` did to the folder and to `out`: it stopped before it ran anything, or it asked for all its files and then printed
-abbrev pub RunDid : List (List ℕ) → Contents → Answer → Outside → Outside → Status → Type 0
-RunDid names files answer before after status =
-    (Stopped names files before after status × (after.out ≡ before.out))
-    ⊎ (AskedAll names before.folder after.folder × Printed answer before after status)
+-- How far a run went, by the status. To its end, and then what it did was all done. Or up to an asking that failed: what stands
+-- before that in the run was done. Or up to a byte that `out` refused; or its line was refused by `note`, and then all was done. Or,
+-- where memory ran out, up to anything
+abbrev pub Went : (input : List ℕ) → Outcome → Outside → Outside → Status → Type 0
+Went input run before after (Exit value) = Done input run.events before after
+Went input run before after Halted = Done input run.events before after
+Went input run before after TurnsSpent = Done input run.events before after
+Went input run before after ExitValue = Done input run.events before after
+Went input run before after InputFault =
+    (events : List Event) × BeginsWith run (events ++ Asks ∷ []) × Prints (printed events) before.out after.out (Ok tt) × AsksInput input events before.input after.input (Err (record {}))
+Went input run before after SinkFault =
+    ((events : List Event) × (byte : ℕ) × BeginsWith run (events ++ Puts byte ∷ [])
+    × Prints (printed events ++ byte ∷ []) before.out after.out (Err (record {})) × AsksInput input events before.input after.input (Ok tt))
+    ⊎ (NoteRose before after × Done input run.events before after)
+Went input run before after Memory = (events : List Event) × BeginsWith run events × Done input events before after
+Went input run before after other = ⊥
+
+-- what `run` did to the outside: it stopped before it ran anything, or it asked for all its files, which are one plain file, and then
+-- ran its program
+abbrev pub RunDid : (turns : ℕ) → List (List ℕ) → Contents → List ℕ → Outside → Outside → Status → Type 0
+RunDid turns names files input before after status =
+    (Stopped names files before after status × (after.out ≡ before.out) × (after.input ≡ before.input))
+    ⊎ ((program : Plain) × HoldsPlain files names program × AskedAll names before.folder after.folder × Went input (plain_run program input turns) before after status)
 
 -- `emit` asked for all its files and then wrote the C of their program, which the folder answered so
 abbrev pub Wrote : List ℕ → List (List ℕ) → Contents → Result (Unit {0}) Refused → Outside → Outside → Type 0
@@ -300,17 +319,18 @@ abbrev pub EmitDid : List ℕ → List (List ℕ) → Contents → Answer → Ou
 EmitDid name names files answer before after status =
     (Stopped names files before after status × (after.out ≡ before.out)) ⊎ WroteAndTold name names files answer before after status
 
--- what a call did to the folder and to `out`: nothing where the words have no reading, and else what the command does
-pub record Acts (words : List (List ℕ)) (files : Contents) (answer : Answer) (before after : Outside) (status : Status) : Type 0 where
-  pub none : HasNoReading words → (after.folder ≡ before.folder) × (after.out ≡ before.out)
-  pub run : (names : List (List ℕ)) → Reads words (Run names) → RunDid names files answer before after status
-  pub emit : (name : List ℕ) (names : List (List ℕ)) → Reads words (Emit name names) → EmitDid name names files answer before after status
+-- what a call did to the folder, to the input and to `out`: nothing where the words have no reading, and else what the command
+-- does. `emit` asks for no input
+pub record Acts (words : List (List ℕ)) (files : Contents) (input : List ℕ) (answer : Answer) (before after : Outside) (status : Status) : Type 0 where
+  pub none : HasNoReading words → (after.folder ≡ before.folder) × (after.input ≡ before.input) × (after.out ≡ before.out)
+  pub run : (turns : ℕ) (names : List (List ℕ)) → Reads words (Run turns names) → RunDid turns names files input before after status
+  pub emit : (name : List ℕ) (names : List (List ℕ)) → Reads words (Emit name names) → EmitDid name names files answer before after status × (after.input ≡ before.input)
 
 -- the line of a run that ended so, with this status
 abbrev pub IsRunLine : List (List ℕ) → Contents → List ℕ → Status → List ℕ → Type 0
 IsRunLine words files input status line =
-    (names : List (List ℕ)) × (program : Plain) × Reads words (Run names) × HoldsPlain files names program
-    × (run_status (plain_run program input default_turns).ending ≡ status) × (line ≡ run_line names (plain_run program input default_turns).ending)
+    (turns : ℕ) × (names : List (List ℕ)) × (program : Plain) × Reads words (Run turns names) × HoldsPlain files names program
+    × (run_status (plain_run program input turns).ending ≡ status) × (line ≡ run_line names (plain_run program input turns).ending)
 
 -- the lines whose refusal changes the status to `SinkFault`: those of 64 to 67, 69 and 72
 abbrev pub IsLineOf : List (List ℕ) → Contents → List ℕ → Status → List ℕ → Type 0
@@ -341,6 +361,7 @@ Noted words files input before after Usage = Put usage_line before.note after.no
 Noted words files input before after Broken = (line : List ℕ) × IsLineOf words files input Broken line × Put line before.note after.note (Ok tt)
 Noted words files input before after NoFile = (line : List ℕ) × IsLineOf words files input NoFile line × Put line before.note after.note (Ok tt)
 Noted words files input before after FolderFault = Tried folder_fault_line before.note after.note
+Noted words files input before after InputFault = Tried input_fault_line before.note after.note
 Noted words files input before after SinkFault = (OutRose before after × Tried output_fault_line before.note after.note) ⊎ RefusesLine words files input before.note after.note
 Noted words files input before after Memory = Tried no_memory_line before.note after.note
 Noted words files input before after NotBuilt = Tried not_built_line before.note after.note
@@ -365,10 +386,8 @@ pub record Keeps (words : List (List ℕ)) (files : Contents) (input : List ℕ)
   pub counts : CountsGrow before after
   -- what stands after the call, whatever its status, and by which calls it came there
   pub stands : GoesNoFurther (answer_of words files input) input before after
-  pub acts : Acts words files (answer_of words files input) before after status
+  pub acts : Acts words files input (answer_of words files input) before after status
   pub noted : Noted words files input before after status
-  -- no plain program asks for input yet, and `emit` runs nothing
-  pub untouched : after.input ≡ before.input
 
 -- the contract of `slang`
 abbrev pub Promise : List (List ℕ) → Outside → Outside → Status → Type 0

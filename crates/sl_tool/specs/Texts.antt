@@ -53,6 +53,10 @@ no_file_line file = codes "no file " ++ file ++ codes "\n"
 abbrev pub folder_fault_line : List ℕ
 folder_fault_line = codes "folder fault\n"
 
+-- 74: the input failed
+abbrev pub input_fault_line : List ℕ
+input_fault_line = codes "input fault\n"
+
 -- 75: an output failed
 abbrev pub output_fault_line : List ℕ
 output_fault_line = codes "output fault\n"

@@ -9,7 +9,7 @@ ghost use Rattle.sl_plain.specs.Plain.{IsProgram};
 ghost use Rattle.sl_plain.specs.Reach.{IsInReach};
 ghost use Rattle.sl_tool.specs.Written.{tree_of, written, IsTreeOf};
 ghost use Rattle.sl_tool.specs.Texts.{emitted_line};
-ghost use Rattle.sl_tool.specs.WordsReading.{names_seen};
+ghost use Rattle.sl_words.specs.WordsReading.{names_seen};
 ghost use Rattle.sl_tool.specs.Parts.{EmitsFiles, is_folder_fault};
 
 use crate::source::read_program;

@@ -16,20 +16,19 @@ mod status;
 mod stop;
 mod telling;
 mod translating;
-mod words;
 
 use emitting::emit_files;
 use running::run_files;
 use sl_outside::{Folder, Sink, Source};
+use sl_words::{Command, read_words};
 pub use status::Status;
 use std::alloc::Global;
 use telling::{tell_end, tell_no_memory, tell_stop, tell_usage};
-use words::{Command, read_words};
 
-/// Does what the words after the program's name ask for. `run FILE..` reads the files from `folder`, and puts on `out` what their
-/// program prints, a byte at a time. `emit -o NAME FILE..` reads the files, writes the C of their program under `NAME.c` by one
+/// Does what the words after the program's name ask for. `run [--turns N] FILE..` reads the files from `folder`, and runs their program in
+/// at most N turns: what it prints is put on `out`, a byte at a time, and each byte that it reads is asked of `input`. `emit -o NAME FILE..` reads the files, writes the C of their program under `NAME.c` by one
 /// call, and puts the line `NAME.c B bytes` on `out`, where B is the length of the C. Where the status isn't 0 to 63, its line is put on
-/// `note`; docs/command-line.md has the statuses, their causes and their lines. No program reads `input` yet.
+/// `note`; docs/command-line.md has the statuses, their causes and their lines.
 ///
 /// The one clause, `Promise`, has a field for each promise.
 pub fn slang<F: Folder, S: Source, K: Sink, N: Sink>(
@@ -59,9 +58,9 @@ pub fn slang<F: Folder, S: Source, K: Sink, N: Sink>(
         Err(_) => return tell_no_memory(note),
     };
     match command {
-        Command::Run { files } => {
+        Command::Run { turns, files } => {
             let names = files.as_slice();
-            match run_files(alloc, names, folder, input, out) {
+            match run_files(alloc, turns, names, folder, input, out) {
                 Ok(end) => tell_end(alloc, names, end, note),
                 Err(stop) => tell_stop(alloc, stop, note),
             }
@@ -74,6 +73,3 @@ pub fn slang<F: Folder, S: Source, K: Sink, N: Sink>(
         }
     }
 }
-
-#[cfg(test)]
-mod tests;

@@ -3,7 +3,7 @@ ghost use Rattle.std.specs.Prelude.{◌≡◌, IfOk};
 ghost use Rattle.sl_outside.specs.Counts.{HasCause};
 ghost use Rattle.sl_outside.specs.Folder.{folder_state};
 ghost use Rattle.sl_tool.specs.SourceFiles.{first_broken_of, program_of};
-ghost use Rattle.sl_tool.specs.WordsReading.{names_seen};
+ghost use Rattle.sl_words.specs.WordsReading.{names_seen};
 ghost use Rattle.sl_tool.specs.Parts.{broken_name, broken_seen, ReadsProgram, ReadsSources, is_folder_fault, sources_seen};
 
 use crate::accepting::first_broken;

@@ -17,6 +17,8 @@ pub enum Stop<'a> {
     NotBuilt,
     #[error("folder fault")]
     Folder,
+    #[error("input fault")]
+    Input,
     #[error("output fault")]
     Sink,
     #[error("no memory")]

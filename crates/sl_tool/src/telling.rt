@@ -1,7 +1,7 @@
 // The line of a status on `note`.
 ghost use Rattle.std.specs.Prelude.{◌≡◌};
 ghost use Rattle.sl_tool.specs.Texts.{broken_line, exit_value_line, file_name, halt_kind, halt_line, no_file_line, no_memory_line, usage_line};
-ghost use Rattle.sl_tool.specs.WordsReading.{names_seen};
+ghost use Rattle.sl_words.specs.WordsReading.{names_seen};
 ghost use Rattle.sl_tool.specs.declared.status.Status.TheVariants as status;
 ghost use Rattle.sl_outside.specs.Sink.{Tried, sink_state};
 ghost use Rattle.sl_tool.specs.Parts.{IsDefined, MakesAndTells, Tells, TellsEnd, TellsStop};
@@ -18,6 +18,8 @@ const USAGE: &[u8] = b"usage: check, emit, run, step, stack or sample\n";
 const TURNS_SPENT: &[u8] = b"turns spent\n";
 
 const FOLDER_FAULT: &[u8] = b"folder fault\n";
+
+const INPUT_FAULT: &[u8] = b"input fault\n";
 
 const OUTPUT_FAULT: &[u8] = b"output fault\n";
 
@@ -78,6 +80,7 @@ pub fn tell_stop<N: Sink>(alloc: Global, stop: Stop<'_>, note: &mut N) -> Status
         Stop::Broken(name, rule) => tell_broken(alloc, name, rule, note),
         Stop::NotBuilt => try_line(note, Status::NotBuilt, NOT_BUILT),
         Stop::Folder => try_line(note, Status::FolderFault, FOLDER_FAULT),
+        Stop::Input => try_line(note, Status::InputFault, INPUT_FAULT),
         Stop::Sink => try_line(note, Status::SinkFault, OUTPUT_FAULT),
         Stop::Mem => tell_no_memory(note),
     }

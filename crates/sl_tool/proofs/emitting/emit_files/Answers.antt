@@ -6,7 +6,7 @@ use Rattle.sl_outside.specs.Sink.{PutGives, sink_state}
 use Rattle.sl_tool.specs.Written.{written}
 use Rattle.sl_tool.specs.Answer.{c_name}
 use Rattle.sl_tool.specs.Texts.{emitted_line}
-use Rattle.sl_tool.specs.WordsReading.{names_seen}
+use Rattle.sl_words.specs.WordsReading.{names_seen}
 use Rattle.sl_tool.proofs.Asking.{program_is_ok, program_in_reach, emit_stopped}
 use Rattle.sl_tool.proofs.Writing.{program_written, write_refused, write_refused_cause}
 use Rattle.sl_tool.proofs.emitting.emit_files.Goals as goal

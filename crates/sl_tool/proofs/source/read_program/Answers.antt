@@ -1,7 +1,7 @@
 use Rattle.std.proofs.Common.{sym, ap, ◌∙◌}
 use Rattle.sl_outside.specs.Folder.{folder_state}
 use Rattle.sl_tool.specs.SourceFiles.{first_broken_of, program_of}
-use Rattle.sl_tool.specs.WordsReading.{names_seen}
+use Rattle.sl_words.specs.WordsReading.{names_seen}
 use Rattle.sl_tool.specs.Parts.{broken_name, sources_seen}
 use Rattle.sl_tool.proofs.Asking.{asked_all, none_broken, broken_found, program_stopped}
 use Rattle.sl_tool.proofs.source.read_program.Goals as goal

@@ -1,7 +1,7 @@
 use Rattle.std.proofs.Common.{take, get_or, drop, suc, [], None, Some, sym, ap, ◌∙◌, subst, refl, Bor, List, ℕ, ◌∷◌, ◌++◌}
 use Rattle.std.specs.Prelude.{Ok, Err}
 use Rattle.sl_outside.specs.Folder.{ReadCall, GoesOn, folder_state}
-use Rattle.sl_tool.specs.WordsReading.{names_seen}
+use Rattle.sl_words.specs.WordsReading.{names_seen}
 use Rattle.sl_tool.specs.Parts.{Finds, FindsSources, sources_seen}
 use Rattle.sl_tool.proofs.Told.{finds_read}
 use Rattle.sl_tool.proofs.Asking.{found_one_more, asked_up_to, names_cut, names_more, sources_more, read_refused, read_stopped}

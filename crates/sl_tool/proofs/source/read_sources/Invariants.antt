@@ -1,7 +1,7 @@
 -- The sources so far are those of the names so far, and no call failed.
 use Rattle.std.proofs.Common.{◌≡◌, take}
 use Rattle.sl_outside.specs.Folder.{folder_state}
-use Rattle.sl_tool.specs.WordsReading.{names_seen}
+use Rattle.sl_words.specs.WordsReading.{names_seen}
 use Rattle.sl_tool.specs.Parts.{FindsSources, sources_seen}
 use Rattle.sl_tool.proofs.source.read_sources.Given as goal
 

@@ -1,6 +1,6 @@
 use Rattle.std.proofs.Common.{◌≡◌, ◌∙◌, subst, sym, ap, refl}
 use Rattle.sl_outside.specs.Sink.{sink_state}
-use Rattle.sl_tool.specs.WordsReading.{names_seen}
+use Rattle.sl_words.specs.WordsReading.{names_seen}
 use Rattle.sl_tool.specs.Parts.{TellsEnd, MakesAndTells}
 use Rattle.sl_tool.specs.Texts.{file_name, halt_line}
 use Rattle.sl_tool.specs.declared.status.Status.TheVariants as status
