@@ -1,5 +1,5 @@
 // One call of the tool over memory, and what it answered and left.
-use sl_outside::{Folder, MemoryFolder, MemorySink, SureSource};
+use sl_outside::{Folder, MemoryFolder, MemorySink, MemorySource};
 use sl_text::{Row, Text};
 use sl_tool::slang;
 use std::alloc::Global;
@@ -23,24 +23,36 @@ pub type Failing = [&'static [u64]; 3];
 /// Nothing fails.
 pub const CALM: Failing = [NONE, NONE, NONE];
 
+/// What a call is to answer: the status, what is on `out` and what is on `note`.
+pub type Answer<'a> = (u8, &'a [u8], &'a [u8]);
+
+/// A name, and what the folder is then to have under it, or nothing.
+pub type Left<'a> = (&'a str, Option<&'a [u8]>);
+
 /// What a call answered and left.
 #[derive(Drop)]
 pub struct Called {
-    pub code: u8,
-    pub out: Row<u8>,
-    pub note: Row<u8>,
-    pub folder: MemoryFolder,
+    code: u8,
+    out: MemorySink,
+    note: MemorySink,
+    folder: MemoryFolder,
 }
 
 impl Called {
+    /// The status, and how many bytes are on `out`.
+    pub fn size(&self) -> (u8, usize) {
+        (self.code, self.out.bytes().len())
+    }
+
     /// Whether the call answered so.
-    pub fn told(&self, code: u8, out: &[u8], note: &[u8]) -> bool {
-        self.code == code && self.out.as_slice() == out && self.note.as_slice() == note
+    fn told(&self, answer: Answer<'_>) -> bool {
+        let (code, out, note) = answer;
+        self.code == code && self.out.bytes() == out && self.note.bytes() == note
     }
 
     /// Whether the next call of the folder fails. Where the number of the call that is to fail is one more than the tool should
     /// have made, this says that it made just so many.
-    pub fn next_fails(&mut self, alloc: Global) -> bool {
+    fn next_fails(&mut self, alloc: Global) -> bool {
         self.folder.read(alloc, "").is_err()
     }
 
@@ -53,12 +65,21 @@ impl Called {
     }
 
     /// Whether the folder then has this under a name, or nothing.
-    pub fn holds(&mut self, alloc: Global, name: &str, bytes: Option<&[u8]>) -> Result<bool, Fail> {
+    fn holds(&mut self, alloc: Global, name: &str, bytes: Option<&[u8]>) -> Result<bool, Fail> {
         Ok(match (self.under(alloc, name)?, bytes) {
             (Some(found), Some(bytes)) => found.as_slice() == bytes,
             (None, None) => true,
             _ => false,
         })
+    }
+
+    /// Whether the folder then has each of these under its name, or nothing.
+    fn holds_all(&mut self, alloc: Global, left: &[Left<'_>]) -> Result<bool, Fail> {
+        let mut all = true;
+        for (name, bytes) in left {
+            all &= self.holds(alloc, name, *bytes)?;
+        }
+        Ok(all)
     }
 }
 
@@ -78,30 +99,148 @@ pub fn joined<'a>(
     Ok(words)
 }
 
-/// Calls the tool with these words over these files.
+/// The words, as the tool takes them.
+fn owned(alloc: Global, words: &[&str]) -> Result<Vec<String>, Fail> {
+    let mut all = Vec::new(alloc);
+    for word in words {
+        all.push(word.to_string(alloc)?)?;
+    }
+    Ok(all)
+}
+
+/// One file of a folder.
+fn entry(alloc: Global, name: &str, bytes: &[u8]) -> Result<(Text, Row<u8>), Fail> {
+    Ok((Text::from_str(alloc, name)?, Row::from_slice(alloc, bytes)?))
+}
+
+/// A folder with these files, that fails at these calls.
+fn folder(alloc: Global, files: &[(&str, &[u8])], failing: &[u64]) -> Result<MemoryFolder, Fail> {
+    let mut entries = Row::new(alloc);
+    for (name, bytes) in files {
+        entries.push(entry(alloc, name, bytes)?)?;
+    }
+    Ok(MemoryFolder::new(entries, Row::from_slice(alloc, failing)?))
+}
+
+/// An output that fails at these calls.
+fn sink(alloc: Global, failing: &[u64]) -> Result<MemorySink, Fail> {
+    Ok(MemorySink::new(alloc, ROOM, Row::from_slice(alloc, failing)?)?)
+}
+
+/// Calls the tool with these words over these files, with nothing to read.
 pub fn call(
     alloc: Global,
     words: &[&str],
     files: &[(&str, &[u8])],
     failing: Failing,
 ) -> Result<Called, Fail> {
-    let mut all = Vec::new(alloc);
-    for word in words {
-        all.push(word.to_string(alloc)?)?;
-    }
-    let mut entries = Row::new(alloc);
-    for (name, bytes) in files {
-        entries.push((Text::from_str(alloc, name)?, Row::from_slice(alloc, bytes)?))?;
-    }
-    let mut folder = MemoryFolder::new(entries, Row::from_slice(alloc, failing[0])?);
-    let mut input = SureSource::new(Row::new(alloc));
-    let mut out = MemorySink::new(alloc, ROOM, Row::from_slice(alloc, failing[1])?)?;
-    let mut note = MemorySink::new(alloc, ROOM, Row::from_slice(alloc, failing[2])?)?;
-    let status = slang(alloc, &all, &mut folder, &mut input, &mut out, &mut note);
+    let input = MemorySource::new(Row::new(alloc), Row::new(alloc));
+    call_on(alloc, words, files, failing, input)
+}
+
+/// Calls it with this input.
+fn call_on(
+    alloc: Global,
+    words: &[&str],
+    files: &[(&str, &[u8])],
+    failing: Failing,
+    input: MemorySource,
+) -> Result<Called, Fail> {
+    let mut input = input;
+    let words = owned(alloc, words)?;
+    let mut folder = folder(alloc, files, failing[0])?;
+    let mut out = sink(alloc, failing[1])?;
+    let mut note = sink(alloc, failing[2])?;
+    let status = slang(alloc, &words, &mut folder, &mut input, &mut out, &mut note);
     Ok(Called {
         code: status.code(),
-        out: Row::from_slice(alloc, out.bytes())?,
-        note: Row::from_slice(alloc, note.bytes())?,
+        out,
+        note,
         folder,
     })
+}
+
+// A test calls the functions below once for each row of its table: a function that holds what a call left, or a text that it made,
+// is proved in seconds where it has one such thing, and in minutes where it has several and many ends.
+
+/// Whether a call with these words over these files answers so.
+pub fn answers(
+    alloc: Global,
+    words: &[&str],
+    files: &[(&str, &[u8])],
+    failing: Failing,
+    answer: Answer<'_>,
+) -> Result<bool, Fail> {
+    let called = call(alloc, words, files, failing)?;
+    Ok(called.told(answer))
+}
+
+/// Whether it answers so, and leaves each of these.
+pub fn leaves(
+    alloc: Global,
+    words: &[&str],
+    files: &[(&str, &[u8])],
+    failing: Failing,
+    answer: Answer<'_>,
+    left: &[Left<'_>],
+) -> Result<bool, Fail> {
+    let mut called = call(alloc, words, files, failing)?;
+    let held = called.holds_all(alloc, left)?;
+    Ok(held && called.told(answer))
+}
+
+/// Whether it answers so, its next call of the folder would have failed, and it leaves each of these.
+pub fn stops(
+    alloc: Global,
+    words: &[&str],
+    files: &[(&str, &[u8])],
+    failing: Failing,
+    answer: Answer<'_>,
+    left: &[Left<'_>],
+) -> Result<bool, Fail> {
+    let mut called = call(alloc, words, files, failing)?;
+    let stopped = called.next_fails(alloc);
+    let held = called.holds_all(alloc, left)?;
+    Ok(stopped && held && called.told(answer))
+}
+
+/// What a call with these words over these files writes under a name.
+pub fn written(
+    alloc: Global,
+    words: &[&str],
+    files: &[(&str, &[u8])],
+    name: &str,
+) -> Result<Row<u8>, Fail> {
+    let mut called = call(alloc, words, files, CALM)?;
+    Ok(called.under(alloc, name)?.ok_or("nothing was written")?)
+}
+
+/// Whether the file `a.scala` with this body of `main` answers so to `run`.
+pub fn runs(alloc: Global, body: &str, answer: Answer<'_>) -> Result<bool, Fail> {
+    let source = app(alloc, body)?;
+    answers(
+        alloc,
+        &["run", "a.scala"],
+        &[("a.scala", source.as_bytes())],
+        CALM,
+        answer,
+    )
+}
+
+/// Whether it answers so where these bytes are its input, and the askings with these numbers fail.
+pub fn reads(
+    alloc: Global,
+    body: &str,
+    input: &[u8],
+    failing: &[u64],
+    answer: Answer<'_>,
+) -> Result<bool, Fail> {
+    let source = app(alloc, body)?;
+    let input = MemorySource::new(
+        Row::from_slice(alloc, input)?,
+        Row::from_slice(alloc, failing)?,
+    );
+    let files: [(&str, &[u8]); 1] = [("a.scala", source.as_bytes())];
+    let called = call_on(alloc, &["run", "a.scala"], &files, CALM, input)?;
+    Ok(called.told(answer))
 }

@@ -1,5 +1,5 @@
 // Each call of the folder and of the outputs refused in turn, and what then stands.
-use crate::called::{CALM, Failing, NONE, app, call, joined};
+use crate::called::{CALM, Failing, NONE, answers, app, joined, leaves, stops, written};
 use std::alloc::Global;
 use std::test::Fail;
 
@@ -59,15 +59,25 @@ const RUN: [Fault; 11] = [
     ([NONE, NONE, &[1]], 7, b"hi\n", b""),
 ];
 
+/// Whether `run` answers as this row says, and the file stays.
+fn run_refused(alloc: Global, source: &[u8], row: &Fault) -> Result<bool, Fail> {
+    let (what, code, out, note) = row;
+    leaves(
+        alloc,
+        &["run", "a.scala"],
+        &[("a.scala", source)],
+        *what,
+        (*code, out, note),
+        &[("a.scala", Some(source))],
+    )
+}
+
 #[test]
 fn each_call_of_run_refused(rt: HostRuntime) -> Result<(), Fail> {
     let alloc = rt.alloc();
     let source = app(alloc, BODY)?;
-    let files: [(&str, &[u8]); 1] = [("a.scala", source.as_bytes())];
-    for (what, code, out, note) in &RUN {
-        let mut called = call(alloc, &["run", "a.scala"], &files, *what)?;
-        assert!(rt; called.told(*code, out, note));
-        assert!(rt; called.holds(alloc, "a.scala", Some(source.as_bytes()))?);
+    for row in &RUN {
+        assert!(rt; run_refused(alloc, source.as_bytes(), row)?);
     }
     Ok(())
 }
@@ -99,22 +109,47 @@ const EMIT: [Emitted; 10] = [
     ([&[1, 2], &[1], &[1]], 73, false, b"", false),
 ];
 
+/// The words of `emit` in these rows, and its files.
+const EMIT_WORDS: &[&str] = &["emit", "-o", "q", "a.scala"];
+
+fn emit_files(source: &[u8]) -> [(&str, &[u8]); 2] {
+    [("a.scala", source), ("b", b"kept")]
+}
+
+/// Whether `emit` answers as this row says, where this is the C of the source and this its line, and the files stay.
+fn emit_refused<'a>(
+    alloc: Global,
+    source: &'a [u8],
+    c: &'a [u8],
+    line: &'a [u8],
+    row: &'a Emitted,
+) -> Result<bool, Fail> {
+    let (what, code, told, note, written) = row;
+    let out = if *told { line } else { b"" };
+    leaves(
+        alloc,
+        EMIT_WORDS,
+        &emit_files(source),
+        *what,
+        (*code, out, note),
+        &[
+            ("q.c", written.then_some(c)),
+            ("a.scala", Some(source)),
+            ("b", Some(b"kept")),
+        ],
+    )
+}
+
 #[test]
 fn each_call_of_emit_refused(rt: HostRuntime) -> Result<(), Fail> {
     let alloc = rt.alloc();
     let source = app(alloc, BODY)?;
-    let files: [(&str, &[u8]); 2] = [("a.scala", source.as_bytes()), ("b", b"kept")];
-    let mut calm = call(alloc, &["emit", "-o", "q", "a.scala"], &files, CALM)?;
-    let c = calm.under(alloc, "q.c")?.ok_or("nothing was written")?;
-    assert!(rt; is_c(c.as_slice()));
+    let bytes = source.as_bytes();
+    let c = written(alloc, EMIT_WORDS, &emit_files(bytes), "q.c")?;
     let line = line(alloc, c.as_slice())?;
-    for (what, code, told, note, written) in &EMIT {
-        let mut called = call(alloc, &["emit", "-o", "q", "a.scala"], &files, *what)?;
-        let out = if *told { line.as_bytes() } else { b"" };
-        assert!(rt; called.told(*code, out, note));
-        assert!(rt; called.holds(alloc, "q.c", written.then_some(c.as_slice()))?);
-        assert!(rt; called.holds(alloc, "a.scala", Some(source.as_bytes()))?);
-        assert!(rt; called.holds(alloc, "b", Some(b"kept"))?);
+    assert!(rt; is_c(c.as_slice()));
+    for row in &EMIT {
+        assert!(rt; emit_refused(alloc, bytes, c.as_slice(), line.as_bytes(), row)?);
     }
     Ok(())
 }
@@ -122,7 +157,9 @@ fn each_call_of_emit_refused(rt: HostRuntime) -> Result<(), Fail> {
 /// Files that are named, and the calls of the folder that fail; and the status and the line of `run` and of `emit` on them, where
 /// nothing is written. `a`, `b` and `c` are plain, `empty` breaks L1, and `other` is neither. The last of the calls is one more
 /// than is to be made.
-const READS: [(&[&str], &[u64], u8, &[u8]); 14] = [
+type Read = (&'static [&'static str], &'static [u64], u8, &'static [u8]);
+
+const READS: [Read; 14] = [
     (&["other"], &[2], 77, NOT_BUILT),
     (&["a", "b", "c"], &[4], 77, NOT_BUILT),
     (&["a", "b", "c"], &[1, 2], 73, FOLDER),
@@ -139,49 +176,78 @@ const READS: [(&[&str], &[u64], u8, &[u8]); 14] = [
     (&["empty", "b", "missing"], &[3, 4], 73, FOLDER),
 ];
 
-/// The words of a command before its files.
-const FRONTS: [&[&str]; 2] = [&["run"], &["emit", "-oq"]];
+/// The files of these rows.
+fn read_files(source: &[u8]) -> [(&str, &[u8]); 5] {
+    [
+        ("a", source),
+        ("b", source),
+        ("c", source),
+        ("empty", b""),
+        ("other", b"// #Sireum\n"),
+    ]
+}
+
+/// Whether the words answer as this row says, with no call of `out`, whose first would fail, and show; and the files stay.
+fn is_told(alloc: Global, source: &[u8], words: &[&str], row: &Read) -> Result<bool, Fail> {
+    let (_, failing, code, line) = row;
+    stops(
+        alloc,
+        words,
+        &read_files(source),
+        [*failing, &[1], NONE],
+        (*code, b"", line),
+        &[
+            ("a", Some(source)),
+            ("b", Some(source)),
+            ("c", Some(source)),
+            ("empty", Some(b"")),
+            ("other", Some(b"// #Sireum\n")),
+            ("q.c", None),
+        ],
+    )
+}
+
+/// Whether they answer so where the line is refused too.
+fn is_told_no_line(alloc: Global, source: &[u8], words: &[&str], row: &Read) -> Result<bool, Fail> {
+    let (_, failing, code, _) = row;
+    stops(
+        alloc,
+        words,
+        &read_files(source),
+        [*failing, &[1], &[1]],
+        if matches!(*code, 65 | 72) {
+            (75, b"", OUTPUT)
+        } else {
+            (*code, b"", b"")
+        },
+        &[("q.c", None)],
+    )
+}
+
+/// Whether both are so of the command with these words before its files.
+fn read_refused(alloc: Global, source: &[u8], front: &[&str], row: &Read) -> Result<bool, Fail> {
+    let words = joined(alloc, front, row.0)?;
+    Ok(
+        is_told(alloc, source, words.as_slice(), row)?
+            && is_told_no_line(alloc, source, words.as_slice(), row)?,
+    )
+}
 
 #[test]
 fn each_read_refused(rt: HostRuntime) -> Result<(), Fail> {
     let alloc = rt.alloc();
     let source = app(alloc, BODY)?;
-    let bytes = source.as_bytes();
-    let files: [(&str, &[u8]); 5] = [
-        ("a", bytes),
-        ("b", bytes),
-        ("c", bytes),
-        ("empty", b""),
-        ("other", b"// #Sireum\n"),
-    ];
-    for (names, failing, code, line) in &READS {
-        for front in &FRONTS {
-            let words = joined(alloc, front, names)?;
-            // The first call of `out` would fail, and show.
-            let what = [*failing, &[1], NONE];
-            let mut told = call(alloc, words.as_slice(), &files, what)?;
-            assert!(rt; told.told(*code, b"", line));
-            assert!(rt; told.next_fails(alloc));
-            for (name, held) in &files {
-                assert!(rt; told.holds(alloc, name, Some(held))?);
-            }
-            assert!(rt; told.holds(alloc, "q.c", None)?);
-            let what = [*failing, &[1], &[1]];
-            let mut refused = call(alloc, words.as_slice(), &files, what)?;
-            if matches!(*code, 65 | 72) {
-                assert!(rt; refused.told(75, b"", OUTPUT));
-            } else {
-                assert!(rt; refused.told(*code, b"", b""));
-            }
-            assert!(rt; refused.next_fails(alloc));
-            assert!(rt; refused.holds(alloc, "q.c", None)?);
-        }
+    for row in &READS {
+        assert!(rt; read_refused(alloc, source.as_bytes(), &["run"], row)?);
+        assert!(rt; read_refused(alloc, source.as_bytes(), &["emit", "-oq"], row)?);
     }
     Ok(())
 }
 
 /// Words that are refused with a line, and that line.
-const REFUSED: [(&[&str], u8, &[u8]); 7] = [
+type Refused = (&'static [&'static str], u8, &'static [u8]);
+
+const REFUSED: [Refused; 7] = [
     (&["run"], 64, USAGE),
     (&["run", "missing"], 72, b"no file missing\n"),
     (&["run", "empty"], 65, b"empty:1:1: L1\n"),
@@ -191,17 +257,21 @@ const REFUSED: [(&[&str], u8, &[u8]); 7] = [
     (&["emit", "empty", "-oq", "empty"], 65, b"empty:1:1: L1\n"),
 ];
 
+/// Whether the words answer with that line, and what they answer where it is refused, and where the second line is too.
+fn line_refused(alloc: Global, row: &Refused) -> Result<bool, Fail> {
+    let (words, code, line) = row;
+    let files: [(&str, &[u8]); 1] = [("empty", b"")];
+    Ok(
+        answers(alloc, words, &files, CALM, (*code, b"", line))?
+            && answers(alloc, words, &files, [NONE, NONE, &[1]], (75, b"", OUTPUT))?
+            && answers(alloc, words, &files, [NONE, NONE, &[1, 2]], (75, b"", b""))?,
+    )
+}
+
 #[test]
 fn each_line_refused(rt: HostRuntime) -> Result<(), Fail> {
-    let alloc = rt.alloc();
-    let files: [(&str, &[u8]); 1] = [("empty", b"")];
-    for (words, code, line) in &REFUSED {
-        let told = call(alloc, words, &files, CALM)?;
-        assert!(rt; told.told(*code, b"", line));
-        let refused = call(alloc, words, &files, [NONE, NONE, &[1]])?;
-        assert!(rt; refused.told(75, b"", OUTPUT));
-        let twice = call(alloc, words, &files, [NONE, NONE, &[1, 2]])?;
-        assert!(rt; twice.told(75, b"", b""));
+    for row in &REFUSED {
+        assert!(rt; line_refused(rt.alloc(), row)?);
     }
     Ok(())
 }

@@ -6,6 +6,8 @@ mod called;
 #[cfg(test)]
 mod faults;
 #[cfg(test)]
+mod loops;
+#[cfg(test)]
 mod plain;
 #[cfg(test)]
 mod rows;

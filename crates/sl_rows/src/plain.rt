@@ -1,8 +1,11 @@
 // What plain programs answer to `run`: values, choices and halts.
-use crate::called::{CALM, NONE, app, call};
+use crate::called::{CALM, NONE, answers, app, runs};
+use std::alloc::Global;
 use std::test::Fail;
 
 const NOT_BUILT: &[u8] = b"not built\n";
+
+const OUTPUT: &[u8] = b"output fault\n";
 
 /// The body of `main`; and the status, what is on `out` and what is on `note` where the file `a.scala` is run.
 type Row = (&'static str, u8, &'static [u8], &'static [u8]);
@@ -133,9 +136,7 @@ const CHOICES: [Row; 8] = [
 ];
 
 /// Sources near a plain one.
-const NEAR: [&str; 12] = [
-    "    while (F) {}\n    return 0\n",
-    "    val b: Z = Port.get()\n    return 0\n",
+const NEAR: [&str; 10] = [
     "    val x: Z = 1\n    x = 2\n    return 0\n",
     "    val x: B = 1\n    return 0\n",
     "    val x: Z = 1\n    val x: Z = 2\n    return 0\n",
@@ -150,44 +151,46 @@ const NEAR: [&str; 12] = [
 
 #[test]
 fn integers_run(rt: HostRuntime) -> Result<(), Fail> {
-    let alloc = rt.alloc();
     for (body, code, out, note) in &INTEGERS {
-        let source = app(alloc, body)?;
-        let files: [(&str, &[u8]); 1] = [("a.scala", source.as_bytes())];
-        let called = call(alloc, &["run", "a.scala"], &files, CALM)?;
-        assert!(rt; called.told(*code, out, note));
+        assert!(rt; runs(rt.alloc(), body, (*code, out, note))?);
     }
     Ok(())
 }
 
 #[test]
 fn choices_run(rt: HostRuntime) -> Result<(), Fail> {
-    let alloc = rt.alloc();
     for (body, code, out, note) in &CHOICES {
-        let source = app(alloc, body)?;
-        let files: [(&str, &[u8]); 1] = [("a.scala", source.as_bytes())];
-        let called = call(alloc, &["run", "a.scala"], &files, CALM)?;
-        assert!(rt; called.told(*code, out, note));
+        assert!(rt; runs(rt.alloc(), body, (*code, out, note))?);
     }
     Ok(())
 }
 
+/// Whether this body is neither run nor written.
+fn is_not_built(alloc: Global, body: &str) -> Result<bool, Fail> {
+    let source = app(alloc, body)?;
+    let files: [(&str, &[u8]); 1] = [("a.scala", source.as_bytes())];
+    let emit = ["emit", "-o", "q", "a.scala"];
+    Ok(
+        answers(
+            alloc,
+            &["run", "a.scala"],
+            &files,
+            CALM,
+            (77, b"", NOT_BUILT),
+        )? && answers(alloc, &emit, &files, CALM, (77, b"", NOT_BUILT))?,
+    )
+}
+
 #[test]
 fn near_sources_are_not_built(rt: HostRuntime) -> Result<(), Fail> {
-    let alloc = rt.alloc();
     for body in &NEAR {
-        let source = app(alloc, body)?;
-        let files: [(&str, &[u8]); 1] = [("a.scala", source.as_bytes())];
-        let ran = call(alloc, &["run", "a.scala"], &files, CALM)?;
-        assert!(rt; ran.told(77, b"", NOT_BUILT));
-        let emitted = call(alloc, &["emit", "-o", "q", "a.scala"], &files, CALM)?;
-        assert!(rt; emitted.told(77, b"", NOT_BUILT));
+        assert!(rt; is_not_built(rt.alloc(), body)?);
     }
     Ok(())
 }
 
 /// Bodies whose run is told by a line, and that line.
-const TOLD: [(&str, u8, &[u8], &[u8]); 2] = [
+const TOLD: [Row; 2] = [
     (
         "    println(\"a\")\n    halt(\"b\")\n    return 0\n",
         66,
@@ -202,18 +205,29 @@ const TOLD: [(&str, u8, &[u8], &[u8]); 2] = [
     ),
 ];
 
+/// Whether the run of this row is told so, and what it answers where the line, or the second byte, is refused.
+fn line_of_a_run_refused(alloc: Global, row: &Row) -> Result<bool, Fail> {
+    let (body, code, out, note) = row;
+    let source = app(alloc, body)?;
+    let words = ["run", "a.scala"];
+    let files: [(&str, &[u8]); 1] = [("a.scala", source.as_bytes())];
+    Ok(
+        answers(alloc, &words, &files, CALM, (*code, out, note))?
+            && answers(alloc, &words, &files, [NONE, NONE, &[1]], (75, out, OUTPUT))?
+            && answers(
+                alloc,
+                &words,
+                &files,
+                [NONE, &[2], NONE],
+                (75, b"a", OUTPUT),
+            )?,
+    )
+}
+
 #[test]
 fn each_line_of_a_run_refused(rt: HostRuntime) -> Result<(), Fail> {
-    let alloc = rt.alloc();
-    for (body, code, out, note) in &TOLD {
-        let source = app(alloc, body)?;
-        let files: [(&str, &[u8]); 1] = [("a.scala", source.as_bytes())];
-        let told = call(alloc, &["run", "a.scala"], &files, CALM)?;
-        assert!(rt; told.told(*code, out, note));
-        let refused = call(alloc, &["run", "a.scala"], &files, [NONE, NONE, &[1]])?;
-        assert!(rt; refused.told(75, out, b"output fault\n"));
-        let cut = call(alloc, &["run", "a.scala"], &files, [NONE, &[2], NONE])?;
-        assert!(rt; cut.told(75, b"a", b"output fault\n"));
+    for row in &TOLD {
+        assert!(rt; line_of_a_run_refused(rt.alloc(), row)?);
     }
     Ok(())
 }

@@ -1,5 +1,5 @@
 // What sources answer to `run` and to `emit`.
-use crate::called::{CALM, app, call, joined};
+use crate::called::{CALM, answers, app, call, joined, leaves, runs};
 use std::alloc::Global;
 use std::test::Fail;
 
@@ -35,61 +35,60 @@ const ROWS: [Row; 12] = [
 
 #[test]
 fn sources_run(rt: HostRuntime) -> Result<(), Fail> {
-    let alloc = rt.alloc();
     for (body, code, out, note) in &ROWS {
-        let source = app(alloc, body)?;
-        let called = call(
-            alloc,
-            &["run", "a.scala"],
-            &[("a.scala", source.as_bytes())],
-            CALM,
-        )?;
-        assert!(rt; called.told(*code, out, note));
+        assert!(rt; runs(rt.alloc(), body, (*code, out, note))?);
     }
     Ok(())
 }
 
+/// Whether a run that returns this value has it as its status.
+fn comes_through(alloc: Global, value: u8) -> Result<bool, Fail> {
+    let body = format!(in alloc; "    return {value}\n")?;
+    runs(alloc, body.as_str(), (value, b"", b""))
+}
+
 #[test]
 fn each_exit_value_comes_through(rt: HostRuntime) -> Result<(), Fail> {
-    let alloc = rt.alloc();
     for value in 0..64u8 {
-        let body = format!(in alloc; "    return {value}\n")?;
-        let source = app(alloc, body.as_str())?;
-        let called = call(
-            alloc,
-            &["run", "a.scala"],
-            &[("a.scala", source.as_bytes())],
-            CALM,
-        )?;
-        assert!(rt; called.told(value, b"", b""));
+        assert!(rt; comes_through(rt.alloc(), value)?);
     }
     Ok(())
+}
+
+/// Puts a line that prints a hundred bytes behind a body.
+fn push_line(body: &mut String) -> Result<(), Fail> {
+    body.push_str("    println(\"")?;
+    for _ in 0..10 {
+        body.push_str("0123456789")?;
+    }
+    Ok(body.push_str("\")\n")?)
 }
 
 /// A source of so many lines that print a hundred bytes.
 fn long_app(alloc: Global, lines: usize) -> Result<String, Fail> {
     let mut body = String::new(alloc);
     for _ in 0..lines {
-        body.push_str("    println(\"")?;
-        for _ in 0..10 {
-            body.push_str("0123456789")?;
-        }
-        body.push_str("\")\n")?;
+        push_line(&mut body)?;
     }
     body.push_str("    return 3\n")?;
     app(alloc, body.as_str())
+}
+
+/// The status of a call over this source, and how many bytes it puts on `out`.
+fn size(alloc: Global, words: &[&str], source: &[u8]) -> Result<(u8, usize), Fail> {
+    let called = call(alloc, words, &[("a.scala", source)], CALM)?;
+    Ok(called.size())
 }
 
 #[test]
 fn long_sources_run_and_are_written(rt: HostRuntime) -> Result<(), Fail> {
     let alloc = rt.alloc();
     let source = long_app(alloc, 120)?;
-    let files: [(&str, &[u8]); 1] = [("a.scala", source.as_bytes())];
-    let ran = call(alloc, &["run", "a.scala"], &files, CALM)?;
-    assert_eq!(rt; ran.code, 3);
-    assert_eq!(rt; ran.out.len(), 12120);
-    let emitted = call(alloc, &["emit", "-o", "q", "a.scala"], &files, CALM)?;
-    assert_eq!(rt; emitted.code, 0);
+    let (code, length) = size(alloc, &["run", "a.scala"], source.as_bytes())?;
+    assert_eq!(rt; code, 3);
+    assert_eq!(rt; length, 12120);
+    let (code, _) = size(alloc, &["emit", "-o", "q", "a.scala"], source.as_bytes())?;
+    assert_eq!(rt; code, 0);
     Ok(())
 }
 
@@ -102,16 +101,27 @@ const BROKEN: [(&str, &[u8]); 5] = [
     ("object X extends App {\n", b"a.scala:1:1: L1\n"),
 ];
 
+/// Whether both answer with this line, and nothing is written.
+fn is_broken(alloc: Global, source: &str, note: &[u8]) -> Result<bool, Fail> {
+    let files: [(&str, &[u8]); 1] = [("a.scala", source.as_bytes())];
+    let emit = ["emit", "-o", "q", "a.scala"];
+    Ok(
+        answers(alloc, &["run", "a.scala"], &files, CALM, (65, b"", note))?
+            && leaves(
+                alloc,
+                &emit,
+                &files,
+                CALM,
+                (65, b"", note),
+                &[("q.c", None)],
+            )?,
+    )
+}
+
 #[test]
 fn sources_without_the_mark_are_broken(rt: HostRuntime) -> Result<(), Fail> {
-    let alloc = rt.alloc();
     for (source, note) in &BROKEN {
-        let files: [(&str, &[u8]); 1] = [("a.scala", source.as_bytes())];
-        let ran = call(alloc, &["run", "a.scala"], &files, CALM)?;
-        assert!(rt; ran.told(65, b"", note));
-        let mut emitted = call(alloc, &["emit", "-o", "q", "a.scala"], &files, CALM)?;
-        assert!(rt; emitted.told(65, b"", note));
-        assert!(rt; emitted.holds(alloc, "q.c", None)?);
+        assert!(rt; is_broken(rt.alloc(), source, note)?);
     }
     Ok(())
 }
@@ -125,7 +135,9 @@ fn padded(alloc: Global, mark: &[u8], length: usize) -> Result<Vec<u8>, Fail> {
 
 /// Files that are named; and the status and the line of `run` and of `emit` on them. `a` and `b` are plain, `other` isn't and
 /// breaks no rule, `short` and `empty` break L1, `most` has 4194304 bytes, `long` has one more, and `both` has that and no mark.
-const SEVERAL: [(&[&str], u8, &[u8]); 25] = [
+type Several = (&'static [&'static str], u8, &'static [u8]);
+
+const SEVERAL: [Several; 25] = [
     (&["most"], 77, NOT_BUILT),
     (&["long"], 65, b"long:1:1: L7\n"),
     (&["both"], 65, b"both:1:1: L1\n"),
@@ -153,6 +165,41 @@ const SEVERAL: [(&[&str], u8, &[u8]); 25] = [
     (&["a", "short", "gone", "missing"], 72, b"no file gone\n"),
 ];
 
+/// Of these files, those that are named.
+fn named<'a>(
+    alloc: Global,
+    all: &[(&'a str, &'a [u8])],
+    names: &[&'a str],
+) -> Result<Vec<(&'a str, &'a [u8])>, Fail> {
+    let mut files: Vec<(&str, &[u8])> = Vec::new(alloc);
+    for entry in all {
+        if names.contains(&entry.0) {
+            files.push(*entry)?;
+        }
+    }
+    Ok(files)
+}
+
+/// Whether both answer as this row says, where those of these files stand that it names, and nothing is written.
+fn answer_together(alloc: Global, all: &[(&str, &[u8])], row: &Several) -> Result<bool, Fail> {
+    let (names, code, note) = row;
+    let files = named(alloc, all, names)?;
+    let run = joined(alloc, &["run"], names)?;
+    let emit = joined(alloc, &["emit", "-oq"], names)?;
+    let (files, answer) = (files.as_slice(), (*code, b"".as_slice(), *note));
+    Ok(
+        answers(alloc, run.as_slice(), files, CALM, answer)?
+            && leaves(
+                alloc,
+                emit.as_slice(),
+                files,
+                CALM,
+                answer,
+                &[("q.c", None)],
+            )?,
+    )
+}
+
 #[test]
 fn files_answer_together(rt: HostRuntime) -> Result<(), Fail> {
     let alloc = rt.alloc();
@@ -170,39 +217,37 @@ fn files_answer_together(rt: HostRuntime) -> Result<(), Fail> {
         ("long", long.as_slice()),
         ("both", both.as_slice()),
     ];
-    for (names, code, note) in &SEVERAL {
-        let mut files: Vec<(&str, &[u8])> = Vec::new(alloc);
-        for entry in &all {
-            if names.contains(&entry.0) {
-                files.push(*entry)?;
-            }
-        }
-        let words = joined(alloc, &["run"], names)?;
-        let ran = call(alloc, words.as_slice(), files.as_slice(), CALM)?;
-        assert!(rt; ran.told(*code, b"", note));
-        let words = joined(alloc, &["emit", "-oq"], names)?;
-        let mut emitted = call(alloc, words.as_slice(), files.as_slice(), CALM)?;
-        assert!(rt; emitted.told(*code, b"", note));
-        assert!(rt; emitted.holds(alloc, "q.c", None)?);
+    for row in &SEVERAL {
+        assert!(rt; answer_together(alloc, &all, row)?);
     }
     Ok(())
+}
+
+/// Whether a file of this name is run, and is told where it is missing and where it is broken.
+fn may_be_a_name(alloc: Global, bytes: &[u8], name: &str) -> Result<bool, Fail> {
+    let missing = format!(in alloc; "no file {name}\n")?;
+    let broken = format!(in alloc; "{name}:1:1: L1\n")?;
+    let (missing, broken) = (missing.as_bytes(), broken.as_bytes());
+    let (one, two) = (["run", name], ["run", "x", name]);
+    Ok(
+        answers(alloc, &one, &[(name, bytes)], CALM, (5, b"", b""))?
+            && answers(alloc, &two, &[("x", bytes)], CALM, (72, b"", missing))?
+            && answers(
+                alloc,
+                &two,
+                &[("x", bytes), (name, b"")],
+                CALM,
+                (65, b"", broken),
+            )?,
+    )
 }
 
 #[test]
 fn names_may_have_any_letters(rt: HostRuntime) -> Result<(), Fail> {
     let alloc = rt.alloc();
     let source = app(alloc, "    return 5\n")?;
-    let bytes = source.as_bytes();
     for name in ["a b", "a=b", "=", "größe", "名", ".", "a\nb"] {
-        let ran = call(alloc, &["run", name], &[(name, bytes)], CALM)?;
-        assert!(rt; ran.told(5, b"", b""));
-        let line = format!(in alloc; "no file {name}\n")?;
-        let missing = call(alloc, &["run", "x", name], &[("x", bytes)], CALM)?;
-        assert!(rt; missing.told(72, b"", line.as_bytes()));
-        let line = format!(in alloc; "{name}:1:1: L1\n")?;
-        let files: [(&str, &[u8]); 2] = [("x", bytes), (name, b"")];
-        let broken = call(alloc, &["run", "x", name], &files, CALM)?;
-        assert!(rt; broken.told(65, b"", line.as_bytes()));
+        assert!(rt; may_be_a_name(alloc, source.as_bytes(), name)?);
     }
     Ok(())
 }

@@ -1,6 +1,6 @@
 // How words are read.
-use crate::called::{CALM, app, call, joined};
-use sl_text::Row;
+use crate::called::{CALM, answers, app, joined, leaves, written};
+use std::alloc::Global;
 use std::test::Fail;
 
 const USAGE: &[u8] = b"usage: check, emit, run, step, stack or sample\n";
@@ -8,7 +8,14 @@ const USAGE: &[u8] = b"usage: check, emit, run, step, stack or sample\n";
 const NOT_BUILT: &[u8] = b"not built\n";
 
 /// Words that have no reading.
-const UNREAD: [&[&str]; 34] = [
+const UNREAD: [&[&str]; 41] = [
+    &["run", "--turns"],
+    &["run", "--turns", "a"],
+    &["run", "--turns", "01", "a"],
+    &["run", "--turns=-1", "a"],
+    &["run", "--turns5", "a"],
+    &["run", "--turns=5", "a", "--turns", "5"],
+    &["emit", "--turns", "5", "-oq", "a"],
     &[],
     &[""],
     &["walk", "a"],
@@ -50,8 +57,8 @@ fn words_without_a_reading_are_refused(rt: HostRuntime) -> Result<(), Fail> {
     let alloc = rt.alloc();
     let source = app(alloc, "    return 5\n")?;
     for words in &UNREAD {
-        let called = call(alloc, words, &[("a", source.as_bytes())], CALM)?;
-        assert!(rt; called.told(64, b"", USAGE));
+        let files: [(&str, &[u8]); 1] = [("a", source.as_bytes())];
+        assert!(rt; answers(alloc, words, &files, CALM, (64, b"", USAGE))?);
     }
     Ok(())
 }
@@ -83,26 +90,37 @@ const FILES: [(&[&str], &[&str]); 23] = [
     (&["emit", "-oq", "--", "-oq", "--"], &["-oq", "--"]),
 ];
 
+/// Whether the words answer, over these files, that the file of this name is missing.
+fn miss(alloc: Global, words: &[&str], files: &[(&str, &[u8])], name: &str) -> Result<bool, Fail> {
+    let line = format!(in alloc; "no file {name}\n")?;
+    answers(alloc, words, files, CALM, (72, b"", line.as_bytes()))
+}
+
+/// Whether the words name the files of these names, in this order: over those before it, each is missing.
+fn name_files(alloc: Global, source: &[u8], words: &[&str], names: &[&str]) -> Result<bool, Fail> {
+    let mut files: Vec<(&str, &[u8])> = Vec::new(alloc);
+    let mut all = true;
+    for (at, name) in names.iter().enumerate() {
+        if !names[..at].contains(name) {
+            all &= miss(alloc, words, files.as_slice(), name)?;
+        }
+        files.push((*name, source))?;
+    }
+    let one = names.len() == 1;
+    let (code, note) = if one {
+        (5, b"".as_slice())
+    } else {
+        (77, NOT_BUILT)
+    };
+    Ok(all && answers(alloc, words, files.as_slice(), CALM, (code, b"", note))?)
+}
+
 #[test]
 fn words_name_files_in_order(rt: HostRuntime) -> Result<(), Fail> {
     let alloc = rt.alloc();
     let source = app(alloc, "    return 5\n")?;
     for (words, names) in &FILES {
-        let mut files: Vec<(&str, &[u8])> = Vec::new(alloc);
-        for (at, name) in names.iter().enumerate() {
-            if !names[..at].contains(name) {
-                let line = format!(in alloc; "no file {name}\n")?;
-                let called = call(alloc, words, files.as_slice(), CALM)?;
-                assert!(rt; called.told(72, b"", line.as_bytes()));
-            }
-            files.push((*name, source.as_bytes()))?;
-        }
-        let called = call(alloc, words, files.as_slice(), CALM)?;
-        if names.len() == 1 {
-            assert!(rt; called.told(5, b"", b""));
-        } else {
-            assert!(rt; called.told(77, b"", NOT_BUILT));
-        }
+        assert!(rt; name_files(alloc, source.as_bytes(), words, names)?);
     }
     Ok(())
 }
@@ -129,18 +147,36 @@ const MANY: [Many; 10] = [
     (&["emit", "-oq"], 256, &[], 64, USAGE),
 ];
 
+/// The words of this row.
+fn many(alloc: Global, row: &Many) -> Result<Vec<&'static str>, Fail> {
+    let (front, count, back, _, _) = row;
+    let mut words = Vec::from_slice(alloc, front)?;
+    for _ in 0..*count {
+        words.push("a")?;
+    }
+    words.extend_from_slice(back)?;
+    Ok(words)
+}
+
+/// Whether they answer as it says.
+fn many_answer(alloc: Global, source: &[u8], row: &Many) -> Result<bool, Fail> {
+    let words = many(alloc, row)?;
+    let (_, _, _, code, note) = row;
+    answers(
+        alloc,
+        words.as_slice(),
+        &[("a", source)],
+        CALM,
+        (*code, b"", note),
+    )
+}
+
 #[test]
 fn a_command_names_255_files_at_most(rt: HostRuntime) -> Result<(), Fail> {
     let alloc = rt.alloc();
     let source = app(alloc, "    return 5\n")?;
-    for (front, count, back, code, note) in &MANY {
-        let mut words = Vec::from_slice(alloc, front)?;
-        for _ in 0..*count {
-            words.push("a")?;
-        }
-        let words = joined(alloc, words.as_slice(), back)?;
-        let called = call(alloc, words.as_slice(), &[("a", source.as_bytes())], CALM)?;
-        assert!(rt; called.told(*code, b"", note));
+    for row in &MANY {
+        assert!(rt; many_answer(alloc, source.as_bytes(), row)?);
     }
     Ok(())
 }
@@ -166,21 +202,36 @@ const NAMES: [(&[&str], &str); 17] = [
     (&["emit", "-oé", "-"], "é"),
 ];
 
+/// Whether the words write this C under the name, and tell it.
+fn write_under(
+    alloc: Global,
+    files: &[(&str, &[u8])],
+    c: &[u8],
+    words: &[&str],
+    name: &str,
+) -> Result<bool, Fail> {
+    let length = c.len();
+    let target = format!(in alloc; "{name}.c")?;
+    let line = format!(in alloc; "{target} {length} bytes\n")?;
+    leaves(
+        alloc,
+        words,
+        files,
+        CALM,
+        (0, line.as_bytes(), b""),
+        &[(target.as_str(), Some(c))],
+    )
+}
+
 #[test]
 fn emit_writes_under_the_name(rt: HostRuntime) -> Result<(), Fail> {
     let alloc = rt.alloc();
     let source = app(alloc, "    return 5\n")?;
     let bytes = source.as_bytes();
     let files: [(&str, &[u8]); 2] = [("a", bytes), ("-", bytes)];
-    let mut plain = call(alloc, &["emit", "-o", "plain", "a"], &files, CALM)?;
-    let text = plain.under(alloc, "plain.c")?.unwrap_or(Row::new(alloc));
+    let c = written(alloc, &["emit", "-o", "plain", "a"], &files, "plain.c")?;
     for (words, name) in &NAMES {
-        let mut called = call(alloc, words, &files, CALM)?;
-        let target = format!(in alloc; "{name}.c")?;
-        let length = text.len();
-        let line = format!(in alloc; "{target} {length} bytes\n")?;
-        assert!(rt; called.told(0, line.as_bytes(), b""));
-        assert!(rt; called.holds(alloc, target.as_str(), Some(text.as_slice()))?);
+        assert!(rt; write_under(alloc, &files, c.as_slice(), words, name)?);
     }
     Ok(())
 }
