@@ -160,8 +160,8 @@ fn call_on(
     })
 }
 
-// A test calls the functions below once for each row of its table: a function that holds what a call left, or a text that it made,
-// is proved in seconds where it has one such thing, and in minutes where it has several and many ends.
+// A test calls the functions below once for each row of its table. What the proof of the tests costs is a few seconds for each
+// function, and more for each call with many arguments that is written out in it; rows cost little, up to some thousand bytes a table.
 
 /// Whether a call with these words over these files answers so.
 pub fn answers(
