@@ -115,37 +115,35 @@ class Maker:
         return made, self.source.choice(known) if known else str(self.source.randint(-5, 70))
 
 
+# The line of a statement, or the one that begins its block, from its parts
+SPELLED = {
+    "declare": lambda is_var, name, kind, right: f"{'var' if is_var else 'val'} {name}: {kind} = {' '.join(right)}",
+    "assign": lambda name, right: f"{name} = {' '.join(right)}",
+    "print": lambda atom: f"println({atom})",
+    "text": lambda text: f'println("{text}")',
+    "assert": lambda test: f"assert({' '.join(test)})",
+    "halt": lambda: 'halt("x")',
+    "spin": lambda test: f"while ({' '.join(test)}) {{}}",
+    "if": lambda test, *blocks: f"if ({' '.join(test)}) {{",
+    "while": lambda test, *blocks: f"while ({' '.join(test)}) {{",
+    "for": lambda name, start, end, *blocks: f"for ({name} <- {start} until {end}) {{",
+}
+
+
 def lay_out(statements, indentation, lines):
     """Puts the lines of the statements behind `lines`, and the number of its line in front of each statement's parts."""
     blanks = " " * indentation
     for statement in statements:
         form, parts = statement[0], statement[1:]
         statement.insert(0, len(lines) + 1)
-        if form == "declare":
-            lines.append(f"{blanks}{'var' if parts[0] else 'val'} {parts[1]}: {parts[2]} = {' '.join(parts[3])}")
-        elif form == "assign":
-            lines.append(f"{blanks}{parts[0]} = {' '.join(parts[1])}")
-        elif form == "print":
-            lines.append(f"{blanks}println({parts[0]})")
-        elif form == "text":
-            lines.append(f'{blanks}println("{parts[0]}")')
-        elif form == "assert":
-            lines.append(f"{blanks}assert({' '.join(parts[0])})")
-        elif form == "halt":
-            lines.append(f'{blanks}halt("x")')
-        elif form == "spin":
-            lines.append(f"{blanks}while ({' '.join(parts[0])}) {{}}")
-        else:
-            if form == "for":
-                lines.append(f"{blanks}for ({parts[0]} <- {parts[1]} until {parts[2]}) {{")
-                lay_out(parts[3], indentation + 2, lines)
-            else:
-                lines.append(f"{blanks}{form} ({' '.join(parts[0])}) {{")
-                lay_out(parts[1], indentation + 2, lines)
-                if form == "if" and parts[2] is not None:
-                    lines.append(f"{blanks}}} else {{")
-                    lay_out(parts[2], indentation + 2, lines)
-            lines.append(f"{blanks}}}")
+        lines.append(blanks + SPELLED[form](*parts))
+        if form not in ("if", "while", "for"):
+            continue
+        lay_out(parts[3] if form == "for" else parts[1], indentation + 2, lines)
+        if form == "if" and parts[2] is not None:
+            lines.append(blanks + "} else {")
+            lay_out(parts[2], indentation + 2, lines)
+        lines.append(blanks + "}")
 
 
 class Run:
