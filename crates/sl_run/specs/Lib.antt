@@ -1,4 +1,13 @@
+-- The vocabulary of runs: its definitions, in reading order.
+
+-- the run so far (`Trace`), and the parts (acts, `Act`) of which every meaning is made
 pub mod Run
+
+-- what the outside knows of a run that is over (`Outcome`)
 pub mod Outcome
+
+-- when two runs go alike (`Follows`, `FollowsUnless`)
 pub mod Alike
+
+-- what each part of a run obeys (`Alone`, `Steady`, `Respects`)
 pub mod Laws

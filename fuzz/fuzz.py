@@ -1,0 +1,44 @@
+#!/usr/bin/env python3
+"""Attacks slangc from outside, with expectations that are computed here, apart from it.
+
+fuzz/fuzz.py [--seed S] [--count N] [programs] [files] [words] [streams]: all four where none is named. From the seed S (1 where it
+isn't given) N (400) random plain programs are run and each fourth is compiled with `cc -fsanitize=undefined`; N random files are run,
+most of them plain files with a few changes; N random command lines are called; and streams and files of the system fail in every way
+that is listed. Each call must give the status, the standard output and the standard error that are expected, and nothing may end by a
+signal. The last line is the count of calls and how many differed; the exit status is 1 where one did. It isn't part of the gate.
+"""
+import argparse
+import random
+import sys
+import tempfile
+
+import files
+import plain
+import streams
+import words
+from product import Product
+
+
+def main():
+    given = argparse.ArgumentParser(description=__doc__.split("\n", maxsplit=1)[0])
+    given.add_argument("--seed", type=int, default=1)
+    given.add_argument("--count", type=int, default=400)
+    given.add_argument("parts", nargs="*", choices=[[], "programs", "files", "words", "streams"])
+    given = given.parse_args()
+    calls, differed = 0, 0
+    for part in given.parts or ["programs", "files", "words", "streams"]:
+        source = random.Random(f"{part} {given.seed}")
+        with tempfile.TemporaryDirectory() as folder:
+            product = Product(folder, given.seed)
+            if part == "streams":
+                done = streams.check(product)
+            else:
+                done = {"programs": plain, "files": files, "words": words}[part].check(product, source, given.count)
+            statuses = ", ".join(f"{status}: {count}" for status, count in sorted(product.statuses.items()))
+            print(f"{part}: {done}; {statuses}")
+            calls, differed = calls + product.calls, differed + product.differed
+    print(f"{calls} calls, seed {given.seed}: {differed} differed")
+    sys.exit(1 if differed else 0)
+
+
+main()

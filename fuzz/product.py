@@ -1,0 +1,53 @@
+"""Calls slangc in a folder of its own, and counts where it did otherwise than was expected."""
+import os
+import shutil
+import subprocess
+
+ROOT = os.path.dirname(os.path.dirname(os.path.abspath(__file__)))
+SLANGC = os.path.join(ROOT, "slangc")
+PROGRAM = os.path.join(ROOT, "crates", "sl_main", "out", "sl_main")
+
+
+class Product:
+    """slangc in a folder: what was called, how often each status was expected, and how many calls differed."""
+
+    def __init__(self, folder, seed):
+        self.folder = folder
+        self.seed = seed
+        self.calls = 0
+        self.differed = 0
+        self.statuses = {}
+
+    def call(self, *command, data=b"", **streams):
+        """Standard output, the status and standard error of a command. A status below 0 is a signal."""
+        streams = {"stdout": subprocess.PIPE, "stderr": subprocess.PIPE, **streams}
+        if "stdin" not in streams:
+            streams["input"] = data
+        done = subprocess.run(command, cwd=self.folder, timeout=120, check=False, **streams)
+        return done.stdout or b"", done.returncode, done.stderr or b""
+
+    def slangc(self, *words, data=b"", **streams):
+        self.calls += 1
+        return self.call(SLANGC, *words, data=data, **streams)
+
+    def write(self, name, data):
+        with open(os.path.join(self.folder, name), "wb") as file:
+            file.write(data)
+
+    def read(self, name):
+        """The bytes of a file, or None where it isn't there."""
+        try:
+            with open(os.path.join(self.folder, name), "rb") as file:
+                return file.read()
+        except FileNotFoundError:
+            return None
+
+    def compare(self, what, found, wanted, kept=None):
+        """Counts a call, and tells it where something else was found than was wanted. The file `kept` is then copied."""
+        status = "0 to 63" if 0 <= wanted[1] <= 63 else str(wanted[1])
+        self.statuses[status] = self.statuses.get(status, 0) + 1
+        if found != wanted:
+            self.differed += 1
+            print(f"seed {self.seed}, {what}: {found} where {wanted} was expected")
+            if kept:
+                shutil.copy(os.path.join(self.folder, kept), f"differs-{self.seed}-{self.differed}")
