@@ -5,8 +5,6 @@ import os
 import resource
 import subprocess
 
-from product import PROGRAM
-
 HEAD = "// #Sireum\nimport org.sireum._\nobject X extends App {\n  def main(args: ISZ[String]): Z = {\n"
 FOOT = "  }\n}\n"
 # Programs, with their status, what they print, and their line
@@ -99,28 +97,13 @@ def files_fail(product):
     product.compare("no more files may be open", product.slangc("run", "silent", preexec_fn=limit), fault)
 
 
-def memory_ends(product):
-    """Address spaces from a few pages up: a named status, and 76 where memory was too little."""
-    found = set()
-
-    for pages in range(1024, 16384, 96):
-        printed, status, note = product.call(PROGRAM, "run", "prints", preexec_fn=limited(resource.RLIMIT_AS, pages * 4096))
-        answer = {4: (b"one\n2\n", b""), 76: (printed, b"no memory\n"), 79: (b"", b"")}.get(status)
-        started = not (status < 0 and not printed and not note and 4 not in found and 76 not in found and 79 not in found)
-        if started:
-            found.add(status)
-            product.calls += 1
-            product.compare(f"{pages} pages", (printed, status, note), (answer[0] if answer else b"", status if answer else 76, answer[1] if answer else b"no memory\n"))
-    return found
-
-
-def check(product):
+def check(product, source, count):
     """All of these."""
+    del source, count
     for name, (body, _, _, _) in PROGRAMS.items():
         product.write(name, (HEAD + body + FOOT).encode())
     before = product.calls
     outputs_fail(product)
     inputs_fail(product)
     files_fail(product)
-    found = memory_ends(product)
-    return f"{product.calls - before} calls with streams, files and limits that fail (in little memory: {', '.join(map(str, sorted(found)))})"
+    return f"{product.calls - before} calls with streams and files that fail"

@@ -4,11 +4,11 @@ use Rattle.std.specs.Prelude.{Result, Ok, Err, Option, Some, IfSome}
 use Rattle.std.specs.Result.{IsErrAnd}
 use Rattle.sl_run.specs.Run.{Event, Trace, Step, Went, Over, start}
 use Rattle.sl_run.specs.Run as run
-use Rattle.sl_run.specs.Outcome.{Outcome, outcome, ended, printed, asked, trace_of}
+use Rattle.sl_run.specs.Outcome.{Outcome, outcome, ended, printed, asked, trace_of, BeginsWith}
 use Rattle.sl_outside.specs.declared.source.Failed.{Failed}
 use Rattle.sl_outside.specs.Counts.{HasCause}
 use Rattle.sl_outside.specs.Sink.{SinkState, Put, Prints}
-use Rattle.sl_outside.specs.Source.{SourceState, Asked, Reads}
+use Rattle.sl_outside.specs.Source.{SourceState, Asked, AreOf, Reads}
 use Rattle.c_machine.specs.declared.ending.End.{End}
 use Rattle.c_machine.specs.declared.ending.State.{State}
 use Rattle.c_machine.specs.declared.ending.State.TheVariants.{Going, Ended}
@@ -16,7 +16,7 @@ use Rattle.c_machine.specs.declared.ending.StepFault.{StepFault}
 use Rattle.c_machine.specs.declared.ending.StepFault.TheVariants as fault
 use Rattle.c_machine.specs.declared.configuration.Configuration.{Configuration}
 use Rattle.c_machine.specs.State as memory
-use Rattle.c_machine.specs.Outside.{Deed, events_of, answers, AreOf, Gives, ended_after, rest_after, seen, Outside, Done, AsksInput, BeginsWith, HasCauses}
+use Rattle.c_machine.specs.Outside.{Deed, events_of, answers, Gives, ended_after, rest_after, seen, Outside, Done, AsksInput, HasCauses}
 use Rattle.c_machine.specs.Stepped.{ending_of, with_left, Ahead, ahead, work, Falls, IsNext, Faulted, Stepped}
 use Rattle.c_machine.specs.Ran.{Reaches, Finishes, Fails, RanFrom, Turned, RanOnSome}
 use Rattle.c_machine.proofs.Printing.{prints_then}

@@ -2,11 +2,11 @@
 use Rattle.std.specs.Prelude.{◌≡◌, ℕ, List, [], ◌∷◌, ◌++◌, map, length, Bool, true, false, Option, Some, None, Result, Ok, Err}
 use Rattle.sl_run.specs.Run.{Event, Trace, rest_of}
 use Rattle.sl_run.specs.Run as run
-use Rattle.sl_run.specs.Outcome.{Outcome, printed, asked}
+use Rattle.sl_run.specs.Outcome.{printed, asked}
 use Rattle.sl_outside.specs.declared.source.Failed.{Failed}
 use Rattle.sl_outside.specs.Counts.{HasCause}
 use Rattle.sl_outside.specs.Sink.{SinkState, Prints}
-use Rattle.sl_outside.specs.Source.{SourceState, Reads}
+use Rattle.sl_outside.specs.Source.{SourceState, AreOf, Reads}
 use Rattle.c_machine.specs.declared.ending.StepFault.{StepFault}
 use Rattle.c_machine.specs.declared.ending.StepFault.TheVariants as fault
 
@@ -31,15 +31,7 @@ answers [] = []
 answers (Puts byte ∷ deeds) = answers deeds
 answers (Gets answer ∷ deeds) = answer ∷ answers deeds
 
--- These answers are those of an input: its bytes in order, and None at its end. What a source answers behind a None counts as None:
--- once an input came to its end, it stays there (ISO C11, 7.21.7.1)
-abbrev pub AreOf : (input : List ℕ) → List (Option ℕ) → Type 0
-AreOf input [] = Unit {0}
-AreOf input (None ∷ answers) = input ≡ []
-AreOf [] (Some byte ∷ answers) = ⊥
-AreOf (next ∷ input) (Some byte ∷ answers) = (byte ≡ next) × AreOf input answers
-
--- the same, where the input came to its end before, or didn't
+-- answers are those of an input that came to its end before, or didn't
 abbrev pub Gives : (at_end : Bool) → (input : List ℕ) → List (Option ℕ) → Type 0
 Gives true input answers = input ≡ []
 Gives false input answers = AreOf input answers
@@ -87,10 +79,6 @@ IsTold (Some left) input = left ≡ input
 abbrev pub AsksInput : (input : List ℕ) → List Event → SourceState → SourceState → Result (Unit {0}) Failed → Type 0
 AsksInput input events before after result =
     (answers : List (Option ℕ)) × (length answers ≡ length (asked events)) × AreOf input answers × Reads answers before after result
-
--- the events of a run begin with these
-abbrev pub BeginsWith : Outcome → List Event → Type 0
-BeginsWith run events = (more : List Event) × (run.events ≡ events ++ more)
 
 -- Faults --------------------------------------------------------------------------------------------------------------
 

@@ -2,7 +2,7 @@
 use Rattle.std.specs.Prelude.{◌≡◌, ◌⊎◌, ℕ, ◌+◌, List, [], ◌∷◌, ◌++◌, Result, Ok, Err, Some, None, IfSome, Bool, false, replicate, slice_get}
 use Rattle.sl_run.specs.Run.{Event, Trace, Over, start}
 use Rattle.sl_run.specs.Run as run
-use Rattle.sl_run.specs.Outcome.{Outcome, outcome, ended, printed}
+use Rattle.sl_run.specs.Outcome.{Outcome, outcome, ended, printed, BeginsWith}
 use Rattle.sl_outside.specs.Sink.{Prints}
 use Rattle.c_machine.specs.declared.program.Program.{Program}
 use Rattle.c_machine.specs.declared.program.Function.{Function}
@@ -18,7 +18,7 @@ use Rattle.c_machine.specs.declared.machine.Standing.{Standing}
 use Rattle.c_machine.specs.declared.machine.Standing.TheVariants.{Going, Ended, Failed}
 use Rattle.c_machine.specs.declared.machine.Machine.{Machine}
 use Rattle.c_machine.specs.Meaning.{whole, first_state}
-use Rattle.c_machine.specs.Outside.{Deed, answers, Gives, ended_after, seen, Outside, Done, IsTold, AsksInput, BeginsWith, HasCauses}
+use Rattle.c_machine.specs.Outside.{Deed, answers, Gives, ended_after, seen, Outside, Done, IsTold, AsksInput, HasCauses}
 use Rattle.c_machine.specs.Stepped.{ending_of, with_left, Ahead, ahead, work, Faulted, Stepped}
 
 -- where a machine stands after a step that answered so

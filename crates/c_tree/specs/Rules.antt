@@ -2,8 +2,9 @@
 -- the line of its first token; a rule that is broken elsewhere is broken on the first line behind the prelude. Inside a
 -- function are its result, its parameters, its variables and its statements.
 --
--- The rules 10 to 22 are about trees. Of these 12 speaks of structs used as types, which no tree has yet. The rules 1 to 9 are about bytes: they are kept where there is a tree with that text. A place that isn't declared has no
--- type and fits every operator; rule 11 is told before the rules of types.
+-- The rules 10 to 22 are about trees. Of these 12 speaks of structs used as types, which no tree has yet. The rules 1 to 9 are
+-- about bytes: they are kept where there is a tree with that text. A place that isn't declared has no type and fits every
+-- operator; rule 11 is told before the rules of types.
 use Rattle.std.specs.Prelude.{◌≡◌, ◌≢◌, ◌⊎◌, ℕ, ◌^◌, ◌<◌, ◌≤◌, List, [], ◌∷◌, ◌++◌, Bool, true, false, not, ◌&&◌, ◌||◌, ◌==◌, Option, Some, None, option_map, Contains, map, codes}
 use Rattle.std.specs.List.{count_by, list_any, IsDistinct}
 use Rattle.std.specs.Str.{bytes_eq}

@@ -1,8 +1,8 @@
 -- What a core does, as a run. Values are copied. Where a core has no meaning (a variable is read that isn't there or wasn't
 -- written, a text stands where a number is wanted, the type of an operation or a called function isn't there, a function ends
--- without a result or by a `Break` outside loops), the run ends with Stuck and the number of the function; a sound core never does (Sound.antt). A value that is
--- stored in a variable that isn't there is dropped, and the types of numbers, places and comparisons aren't looked at: a sound core
--- has all variables and types that it names.
+-- without a result or by a `Break` outside loops), the run ends with Stuck and the number of the function; a sound core never
+-- does (Sound.antt). A value that is stored in a variable that isn't there is dropped, and the types of numbers, places and
+-- comparisons aren't looked at: a sound core has all variables and types that it names.
 use Rattle.std.specs.Prelude.{ℕ, ◌%◌, ℤ, pos, negsuc, List, [], ◌∷◌, Bool, true, false, not, ◌==◌, nat_abs, Option, None, Some, Result, Ok, Err, length, map, replicate, slice_get}
 use Rattle.std.specs.Fmt.{signed_decimal}
 use Rattle.sl_num.specs.declared.arithmetic.Op.{Op}

@@ -31,3 +31,11 @@ abbrev pub Reads : List (Option ℕ) → SourceState → SourceState → Result 
 Reads [] before after (Ok done) = after ≡ before
 Reads [] before after (Err failed) = Asked before after (Err failed)
 Reads (answer ∷ answers) before after result = (between : SourceState) × Asked before between (Ok answer) × Reads answers between after result
+
+-- These answers are those of an input: its bytes in order, and None at its end. What a source answers behind a None counts as None:
+-- once an input came to its end, it stays there (ISO C11, 7.21.7.1)
+abbrev pub AreOf : (input : List ℕ) → List (Option ℕ) → Type 0
+AreOf input [] = Unit {0}
+AreOf input (None ∷ answers) = input ≡ []
+AreOf [] (Some byte ∷ answers) = ⊥
+AreOf (next ∷ input) (Some byte ∷ answers) = (byte ≡ next) × AreOf input answers

@@ -1,5 +1,5 @@
 -- What the outside knows of a run that is over. What is promised of whole programs are equations of outcomes.
-use Rattle.std.specs.Prelude.{ℕ, suc, ℤ, List, [], ◌∷◌, map}
+use Rattle.std.specs.Prelude.{◌≡◌, ℕ, suc, ℤ, List, [], ◌∷◌, ◌++◌, map}
 use Rattle.sl_run.specs.Run.{Ending, Done, Event, Puts, Asks, Trace, Step, Went, Over, Act, start}
 
 -- how a run ended, its events, the rest of the input, and the turns that were left
@@ -38,3 +38,7 @@ abbrev pub asked : List Event → List ℕ
 asked [] = []
 asked (Puts b ∷ events) = map suc (asked events)
 asked (Asks ∷ events) = 0 ∷ asked events
+
+-- the events of a run begin with these
+abbrev pub BeginsWith : Outcome → List Event → Type 0
+BeginsWith run events = (more : List Event) × (run.events ≡ events ++ more)

@@ -6,10 +6,10 @@ use Rattle.sl_outside.specs.declared.source.Failed.{Failed}
 use Rattle.sl_outside.specs.Counts.{Rose}
 use Rattle.sl_outside.specs.Source.{NextGives, SourceState, Asked, Reads}
 use Rattle.sl_run.specs.Run.{Event}
-use Rattle.sl_run.specs.Outcome.{Outcome, printed, asked}
+use Rattle.sl_run.specs.Outcome.{Outcome, printed, asked, BeginsWith}
 use Rattle.sl_run.proofs.Puts.{asked-append}
 use Rattle.c_machine.specs.Outside as machine
-use Rattle.c_machine.specs.Outside.{AsksInput, BeginsWith}
+use Rattle.c_machine.specs.Outside.{AsksInput}
 use Rattle.sl_tool.specs.Outside.{IsTold}
 
 -- what a source tells, in the words of the machine and in those of the tool

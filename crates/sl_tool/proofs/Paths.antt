@@ -9,9 +9,9 @@ use Rattle.sl_outside.specs.Folder.{Contents, FolderState}
 use Rattle.sl_outside.specs.Source.{SourceState}
 use Rattle.sl_outside.specs.Sink.{IsPrefix, SinkState, Put, Tried, Prints}
 use Rattle.sl_run.specs.Run.{Event, Puts, Asks, Ending, Halt, TurnsSpent, Stuck}
-use Rattle.sl_run.specs.Outcome.{Outcome, printed}
+use Rattle.sl_run.specs.Outcome.{Outcome, printed, BeginsWith}
 use Rattle.sl_run.proofs.Puts.{printed-append}
-use Rattle.c_machine.specs.Outside.{AsksInput, BeginsWith}
+use Rattle.c_machine.specs.Outside.{AsksInput}
 use Rattle.c_tree.specs.Text.{CText}
 use Rattle.c_write.specs.Lined.{lined}
 use Rattle.sl_tool.specs.declared.stop.Stop.{Stop}

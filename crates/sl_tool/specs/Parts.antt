@@ -26,11 +26,11 @@ use Rattle.c_machine.specs.declared.ending.StepFault.TheVariants as fault
 use Rattle.c_machine.specs.Stepped.{ending_of}
 use Rattle.c_tree.specs.declared.tree.CFile.{CFile}
 use Rattle.c_tree.specs.Meaning.{c_run}
-use Rattle.sl_run.specs.Outcome.{Outcome, printed}
+use Rattle.sl_run.specs.Outcome.{Outcome, printed, BeginsWith}
 use Rattle.sl_plain.specs.Means.{plain_run}
 use Rattle.sl_tool.specs.Answer.{c_name, run_status, run_line}
 use Rattle.sl_tool.specs.Promise.{more_calls, reads_of, AskedUpTo, AskedForSome, AskedAndWrote}
-use Rattle.c_machine.specs.Outside.{AsksInput, BeginsWith}
+use Rattle.c_machine.specs.Outside.{AsksInput}
 use Rattle.sl_tool.specs.Outside.{IsTold}
 use Rattle.sl_tool.specs.Texts.{emitted_line, broken_line, no_file_line, folder_fault_line, input_fault_line, output_fault_line, no_memory_line, not_built_line}
 

@@ -8,11 +8,11 @@ use Rattle.sl_outside.specs.declared.folder.Refused.{Refused}
 use Rattle.sl_outside.specs.declared.folder.Refused.TheVariants as refused
 use Rattle.sl_outside.specs.Counts.{one_more}
 use Rattle.sl_outside.specs.Folder.{Contents, FolderCall, ReadCall, WriteCall, GoesOn, WriteGives, FolderState}
-use Rattle.c_machine.specs.Outside.{AsksInput, BeginsWith}
+use Rattle.c_machine.specs.Outside.{AsksInput}
 use Rattle.sl_outside.specs.Sink.{IsPrefix, SinkState, Put, Tried, Prints}
 use Rattle.sl_run.specs.Run.{Event, Puts, Asks}
 use Rattle.sl_run.specs.Run as ending
-use Rattle.sl_run.specs.Outcome.{Outcome, printed, asked}
+use Rattle.sl_run.specs.Outcome.{Outcome, printed, BeginsWith}
 use Rattle.c_tree.specs.declared.tree.CFile.{CFile}
 use Rattle.c_tree.specs.Text.{CText}
 use Rattle.c_tree.specs.Rules.{KeepsRules}

@@ -25,10 +25,11 @@ pub use status::Status;
 use std::alloc::Global;
 use telling::{tell_end, tell_no_memory, tell_stop, tell_usage};
 
-/// Does what the words after the program's name ask for. `run [--turns N] FILE..` reads the files from `folder`, and runs their program in
-/// at most N turns: what it prints is put on `out`, a byte at a time, and each byte that it reads is asked of `input`. `emit -o NAME FILE..` reads the files, writes the C of their program under `NAME.c` by one
-/// call, and puts the line `NAME.c B bytes` on `out`, where B is the length of the C. Where the status isn't 0 to 63, its line is put on
-/// `note`; docs/command-line.md has the statuses, their causes and their lines.
+/// Does what the words after the program's name ask for. `run [--turns N] FILE..` reads the files from `folder`, and runs their
+/// program in at most N turns: what it prints is put on `out`, a byte at a time, and each byte that it reads is asked of `input`.
+/// `emit -o NAME FILE..` reads the files, writes the C of their program under `NAME.c` by one call, and puts the line
+/// `NAME.c B bytes` on `out`, where B is the length of the C. Where the status isn't 0 to 63, its line is put on `note`;
+/// docs/command-line.md has the statuses, their causes and their lines.
 ///
 /// The one clause, `Promise`, has a field for each promise.
 pub fn slang<F: Folder, S: Source, K: Sink, N: Sink>(
