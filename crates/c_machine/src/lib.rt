@@ -25,8 +25,3 @@ pub use ending::{End, State, StepFault};
 pub use machine::{Machine, Report};
 pub use program::{Expr, Frame, Function, Program, Slot, Stmt, Word};
 pub use resolving::resolve;
-
-#[cfg(test)]
-mod run_tests;
-#[cfg(test)]
-mod tests;

@@ -19,6 +19,3 @@ mod types;
 pub use checking::Checked;
 pub use ending::block_ends;
 pub use naming::Names;
-
-#[cfg(test)]
-mod tests;

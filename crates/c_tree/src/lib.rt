@@ -9,6 +9,3 @@ mod tree;
 pub use fault::{CFault, NotC};
 pub use mangling::mangle;
 pub use tree::{CArg, CBinary, CExpr, CFile, CFun, CMember, CPlace, CStmt, CStruct, CType, CVar};
-
-#[cfg(test)]
-mod tests;

@@ -38,6 +38,3 @@ pub fn write(alloc: Global, file: &CFile) -> Result<Row<u8>, Mem>
     writer.put(POSTLUDE)?;
     Ok(Row::from_vec(writer.bytes))
 }
-
-#[cfg(test)]
-mod tests;

@@ -41,6 +41,3 @@ pub fn to_c(alloc: Global, core: &Core) -> Result<CFile, Mem>
         functions,
     })
 }
-
-#[cfg(test)]
-mod tests;

@@ -1,4 +1,5 @@
-//! Tests of the whole tool over memory, as tables of rows: what words over which files answer. There is no other code here.
+//! Tests, as tables of rows: of the whole tool over memory (what words over which files answer), and of the crates of C trees
+//! (names, rules, layout and the machine). There is no other code here.
 #![tactic(auto)]
 
 #[cfg(test)]
@@ -6,10 +7,18 @@ mod called;
 #[cfg(test)]
 mod faults;
 #[cfg(test)]
+mod layout;
+#[cfg(test)]
 mod loops;
+#[cfg(test)]
+mod machine;
+#[cfg(test)]
+mod names;
 #[cfg(test)]
 mod plain;
 #[cfg(test)]
 mod rows;
+#[cfg(test)]
+mod rules;
 #[cfg(test)]
 mod words;

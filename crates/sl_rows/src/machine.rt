@@ -1,4 +1,5 @@
-use crate::{End, Expr, Function, Machine, Program, Slot, State, StepFault, Stmt};
+// Resolved programs, run by the machine.
+use c_machine::{End, Expr, Function, Machine, Program, Slot, State, StepFault, Stmt};
 use sl_num::Comparison;
 use sl_outside::{MemorySink, SureSource};
 use sl_text::{Boxed, Row, Shared};

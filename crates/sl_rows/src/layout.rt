@@ -1,15 +1,28 @@
-// The text of a tree, as it comes out.
-use super::*;
-use c_tree::{CArg, CBinary, CExpr, CFun, CMember, CPlace, CStmt, CStruct, CType, CVar};
+// The text of C trees that have a form of everything, as it comes out.
+use c_tree::{CArg, CBinary, CExpr, CFile, CFun, CMember, CPlace, CStmt, CStruct, CType, CVar};
+use c_write::write;
 use sl_num::Comparison;
-use sl_text::{Boxed, Text};
+use sl_text::{Boxed, Row, Text};
+use std::alloc::Global;
 use std::test::Fail;
 
 const I64: CType = CType::Int(true, 64);
 
 const U8: CType = CType::Int(false, 8);
 
-/// What stands between the first lines and the last line of the text of `straight_of`.
+/// The first lines of each text.
+const PRELUDE: &[u8] = b"\
+#include <stdint.h>\n\
+#include <stdio.h>\n\
+#include <stdlib.h>\n\
+static inline void sl_put(int64_t b) { putchar((int)b); }\n\
+static inline int64_t sl_get(void) { int c = getchar(); return c == EOF ? -1 : c; }\n\
+static inline void sl_halt(int64_t k, int64_t f, int64_t n) { fflush(stdout); fprintf(stderr, \"halt %d %d:%d\\n\", (int)k, (int)f, (int)n); exit(66); }\n";
+
+/// The last line.
+const POSTLUDE: &[u8] = b"int main(void) { return (int)sl_main(); }\n";
+
+/// What stands between them in the text of `straight_of`.
 const MIDDLE: &[u8] = b"struct state {
     int64_t count;
     uint8_t bytes[16];

@@ -1,4 +1,5 @@
-use super::*;
+// C names, and how faults of C trees print.
+use c_tree::{CFault, NotC, mangle};
 use std::test::Fail;
 
 #[test]

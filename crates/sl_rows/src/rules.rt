@@ -1,8 +1,7 @@
-use super::*;
-use c_tree::{
-    CArg, CBinary, CExpr, CFault, CFile, CFun, CMember, CPlace, CStmt, CStruct, CType, CVar, NotC,
-};
-use sl_text::{Boxed, Mem, Row, Text};
+// Which rule of C trees is told. That a small tree breaks each rule is proved (c_tree's proofs/Refused.antt).
+use c_rules::Checked;
+use c_tree::{CArg, CExpr, CFault, CFile, CFun, CPlace, CStmt, CType, CVar, NotC};
+use sl_text::{Mem, Row, Text};
 use std::alloc::Global;
 use std::test::Fail;
 
@@ -136,73 +135,12 @@ fn of_two_alike_the_first_is_told(rt: HostRuntime) -> Result<(), Fail> {
 }
 
 #[test]
-fn names_clash_inside(rt: HostRuntime) -> Result<(), Fail> {
-    let alloc = rt.alloc();
-    let mut main = start(alloc, one(alloc, give())?)?;
-    main.vars = two(
-        alloc,
-        var(alloc, "a", CType::Int(true, 64))?,
-        var(alloc, "a", CType::Int(true, 8))?,
-    )?;
-    let file = file_of(alloc, one(alloc, main)?)?;
-    assert_eq!(rt; Checked::check(alloc, file).err(), broken(10, 20));
-    Ok(())
-}
-
-#[test]
 fn a_name_is_reserved(rt: HostRuntime) -> Result<(), Fail> {
     let alloc = rt.alloc();
     let mut main = start(alloc, one(alloc, give())?)?;
     main.vars = one(alloc, var(alloc, "fflush", CType::Int(true, 64))?)?;
     let file = file_of(alloc, one(alloc, main)?)?;
     assert_eq!(rt; Checked::check(alloc, file).err(), broken(10, 20));
-    Ok(())
-}
-
-#[test]
-fn a_variable_is_unknown(rt: HostRuntime) -> Result<(), Fail> {
-    let alloc = rt.alloc();
-    let put = CStmt::Put(CExpr::Read(place(alloc, "a")?));
-    assert_eq!(rt; told_of(alloc, two(alloc, put, give())?)?, broken(11, 20));
-    Ok(())
-}
-
-#[test]
-fn an_array_is_empty(rt: HostRuntime) -> Result<(), Fail> {
-    let alloc = rt.alloc();
-    let mut file = file_of(alloc, one(alloc, start(alloc, one(alloc, give())?)?)?)?;
-    let member = CMember {
-        name: Text::from_str(alloc, "a")?,
-        kind: CType::Int(true, 64),
-        count: Some(0),
-        choice: Row::new(alloc),
-    };
-    file.structs = one(
-        alloc,
-        CStruct {
-            name: Text::from_str(alloc, "s")?,
-            members: one(alloc, member)?,
-        },
-    )?;
-    assert_eq!(rt; Checked::check(alloc, file).err(), broken(13, 7));
-    Ok(())
-}
-
-#[test]
-fn operands_differ(rt: HostRuntime) -> Result<(), Fail> {
-    let alloc = rt.alloc();
-    let left = Boxed::new(alloc, CExpr::Const(true, 1))?;
-    let right = Boxed::new(alloc, CExpr::Const(false, 1))?;
-    let put = CStmt::Put(CExpr::Binary(CBinary::Add, left, right));
-    assert_eq!(rt; told_of(alloc, two(alloc, put, give())?)?, broken(14, 20));
-    Ok(())
-}
-
-#[test]
-fn a_value_has_another_type(rt: HostRuntime) -> Result<(), Fail> {
-    let alloc = rt.alloc();
-    let put = CStmt::Put(CExpr::Const(false, 1));
-    assert_eq!(rt; told_of(alloc, two(alloc, put, give())?)?, broken(15, 20));
     Ok(())
 }
 
@@ -217,64 +155,6 @@ fn there_is_an_argument_too_many(rt: HostRuntime) -> Result<(), Fail> {
         two(alloc, helper(alloc, "h", Row::new(alloc))?, main)?,
     )?;
     assert_eq!(rt; Checked::check(alloc, file).err(), broken(16, 20));
-    Ok(())
-}
-
-#[test]
-fn no_result_is_stored(rt: HostRuntime) -> Result<(), Fail> {
-    let alloc = rt.alloc();
-    let call = CStmt::Call(
-        Some(place(alloc, "a")?),
-        Text::from_str(alloc, "h")?,
-        Row::new(alloc),
-    );
-    let mut main = start(alloc, two(alloc, call, give())?)?;
-    main.vars = one(alloc, var(alloc, "a", CType::Int(true, 64))?)?;
-    let file = file_of(
-        alloc,
-        two(alloc, helper(alloc, "h", Row::new(alloc))?, main)?,
-    )?;
-    assert_eq!(rt; Checked::check(alloc, file).err(), broken(17, 20));
-    Ok(())
-}
-
-#[test]
-fn a_condition_is_narrow(rt: HostRuntime) -> Result<(), Fail> {
-    let alloc = rt.alloc();
-    let branch = CStmt::If(CExpr::Read(place(alloc, "b")?), Row::new(alloc), None);
-    let mut main = start(alloc, two(alloc, branch, give())?)?;
-    main.vars = one(alloc, var(alloc, "b", CType::Int(false, 8))?)?;
-    let file = file_of(alloc, one(alloc, main)?)?;
-    assert_eq!(rt; Checked::check(alloc, file).err(), broken(18, 20));
-    Ok(())
-}
-
-#[test]
-fn an_inline_function_calls_another(rt: HostRuntime) -> Result<(), Fail> {
-    let alloc = rt.alloc();
-    let caller = helper(alloc, "h", one(alloc, bare_call(alloc, "sl_main")?)?)?;
-    let file = file_of(
-        alloc,
-        two(alloc, caller, start(alloc, one(alloc, give())?)?)?,
-    )?;
-    assert_eq!(rt; Checked::check(alloc, file).err(), broken(19, 18));
-    Ok(())
-}
-
-#[test]
-fn a_function_can_come_to_its_end(rt: HostRuntime) -> Result<(), Fail> {
-    let alloc = rt.alloc();
-    let branch = CStmt::If(CExpr::Const(true, 1), one(alloc, give())?, None);
-    assert_eq!(rt; told_of(alloc, one(alloc, branch)?)?, broken(21, 20));
-    Ok(())
-}
-
-#[test]
-fn a_prototype_is_missing(rt: HostRuntime) -> Result<(), Fail> {
-    let alloc = rt.alloc();
-    let mut file = file_of(alloc, one(alloc, start(alloc, one(alloc, give())?)?)?)?;
-    file.protos = Row::new(alloc);
-    assert_eq!(rt; Checked::check(alloc, file).err(), broken(22, 7));
     Ok(())
 }
 
