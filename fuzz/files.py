@@ -81,8 +81,8 @@ def random_file(source):
     data = text_of(laid_out(source)[0])
     if chance < 0.13:
         return data[:source.randrange(len(data))]
-    for _ in range(source.choice([1, 1, 1, 2, 3])):
-        data = source.choice([changed_bytes, changed_words, changed_names, changed_lines])(source, data or b"\n")
+    for _ in range(source.choice([1, 1, 1, 1, 2, 3])):
+        data = source.choice([changed_bytes, changed_words, changed_names, changed_names, changed_lines])(source, data or b"\n")
     return data
 
 

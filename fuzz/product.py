@@ -1,10 +1,11 @@
-"""Calls slangc in a folder of its own, and counts where it did otherwise than was expected."""
+"""Calls slangc in a folder of its own, and counts where it did otherwise than was expected. The launcher builds the program, where it
+must, and then the program itself is called: so the streams of a call are those that it gets."""
 import os
 import shutil
 import subprocess
 
 ROOT = os.path.dirname(os.path.dirname(os.path.abspath(__file__)))
-SLANGC = os.path.join(ROOT, "slangc")
+LAUNCHER = os.path.join(ROOT, "slangc")
 PROGRAM = os.path.join(ROOT, "crates", "sl_main", "out", "sl_main")
 
 
@@ -17,18 +18,20 @@ class Product:
         self.calls = 0
         self.differed = 0
         self.statuses = {}
+        usage = (b"", 64, b"usage: check, emit, run, step, stack or sample\n")
+        self.compare("the launcher without words", self.call(LAUNCHER), usage)
 
     def call(self, *command, data=b"", **streams):
         """Standard output, the status and standard error of a command. A status below 0 is a signal."""
         streams = {"stdout": subprocess.PIPE, "stderr": subprocess.PIPE, **streams}
         if "stdin" not in streams:
             streams["input"] = data
-        done = subprocess.run(command, cwd=self.folder, timeout=120, check=False, **streams)
+        done = subprocess.run(command, cwd=self.folder, timeout=600, check=False, **streams)
         return done.stdout or b"", done.returncode, done.stderr or b""
 
     def slangc(self, *words, data=b"", **streams):
         self.calls += 1
-        return self.call(SLANGC, *words, data=data, **streams)
+        return self.call(PROGRAM, *words, data=data, **streams)
 
     def write(self, name, data):
         with open(os.path.join(self.folder, name), "wb") as file:
@@ -43,7 +46,7 @@ class Product:
             return None
 
     def compare(self, what, found, wanted, kept=None):
-        """Counts a call, and tells it where something else was found than was wanted. The file `kept` is then copied."""
+        """Counts what was wanted, and tells it where something else was found. The file `kept` is then copied to this folder."""
         status = "0 to 63" if 0 <= wanted[1] <= 63 else str(wanted[1])
         self.statuses[status] = self.statuses.get(status, 0) + 1
         if found != wanted:
