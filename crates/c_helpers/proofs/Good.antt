@@ -19,7 +19,7 @@ use Rattle.c_tree.specs.WellFormed.{expr_depth}
 use Rattle.c_tree.specs.Rules.{word, NamesClash}
 use Rattle.c_tree.proofs.Variants.{expression_depths_are, strays_are, ends_are}
 use Rattle.c_helpers.specs.Functions.{constant, named, greatest, least, minus_one, give, if_else, parameter, sum_fits, difference_fits, product_by_positive, product_by_negative, product_fits, quotient_fits, remainder, put_digit, digit, call_digit, powers, put_sign, print}
-use Rattle.c_helpers.proofs.Names.{name_is, none_of, no_clash}
+use Rattle.c_tree.proofs.Names.{name_is, none_of, no_clash}
 use Rattle.c_helpers.proofs.Keeping.{IsKnown, ExprGood, inside, CanCall, StmtGood, FunctionGood}
 use Rattle.c_helpers.proofs.Composing.{constant_good, named_good, binary_good, compare_good, negate_good, assign_good, call_good, return_good, put_good, if_good, if_else_good, deeper}
 
