@@ -34,7 +34,7 @@ use Rattle.sl_plain.specs.Plain.{Declared, declaration, kind_of_atom, condition_
 use Rattle.sl_plain.specs.Means.{Value, Of, Variables, value_of, with_held, with_number, with_number_of, result_or_halt, condition_value, store, round_of, while_holds, for_numbers, count_until}
 use Rattle.sl_plain.specs.Lowered.{path_of, atom_expr, condition_expr, unnamed, leave_unless, raise, for_round, for_of, z}
 use Rattle.sl_plain.proofs.Names.{name_of}
-use Rattle.sl_plain.proofs.Slots.{SameBelow, same_below, set_below, then_below, get_set_same, get_set_other}
+use Rattle.sl_core.proofs.Slots.{SameBelow, same_below, set_below, then_below, get_set_same, get_set_other}
 use Rattle.sl_plain.proofs.Held.{memory_of, Ready, Within, Extends, store_is, read_unnamed, store_unnamed, ready_declared}
 use Rattle.sl_plain.proofs.Values.{atom_holds, with_number_is, atom_runs, condition_is, is_true_truth, sum_is, some_left, none_left}
 use Rattle.sl_plain.proofs.Alike.{WentOn, Alike, GoAlike, went_both, over_both, alike_from, go_same, bind_alike, loop_alike}

@@ -23,7 +23,7 @@ use Rattle.sl_plain.specs.Plain.{Declared, declaration, kind_of_atom, right_fits
 use Rattle.sl_plain.specs.Means.{Value, Of, Is, Variables, with_held, with_value, right_value, condition_value, printed_value, printed_truth, print_line, store}
 use Rattle.sl_plain.specs.Lowered.{path_of, atom_expr, store_right, condition_expr, put_text, print_of}
 use Rattle.sl_plain.proofs.Names.{name_of}
-use Rattle.sl_plain.proofs.Slots.{same_below}
+use Rattle.sl_core.proofs.Slots.{same_below}
 use Rattle.sl_plain.proofs.Held.{memory_of, Holds, Ready, Within, store_is}
 use Rattle.sl_plain.proofs.Values.{Gives, atom_holds, with_value_is, atom_runs, condition_is, right_is, is_true_truth}
 use Rattle.sl_plain.proofs.Alike.{Alike, GoAlike, went_both, over_both, go_same, bind_alike}

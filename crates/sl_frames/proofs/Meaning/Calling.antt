@@ -19,7 +19,8 @@ use Rattle.c_tree.proofs.Names.{names_differ, differ_names}
 use Rattle.sl_frames.specs.Names.{function_name}
 use Rattle.sl_frames.specs.Translated.{of_each, function_of}
 use Rattle.sl_frames.proofs.Keeps.Tests.{of_all}
-use Rattle.sl_frames.proofs.Meaning.Finding.{some_same, get_left, get_right, found_at, found_none, before_or_behind}
+use Rattle.sl_core.proofs.Slots.{some_same, get_left, get_right}
+use Rattle.sl_frames.proofs.Meaning.Finding.{found_at, found_none, before_or_behind}
 use Rattle.sl_frames.proofs.Meaning.Naming.{same_name}
 use Rattle.sl_frames.proofs.Meaning.Helped.{Helps}
 

@@ -36,12 +36,12 @@ use Rattle.sl_frames.specs.Promise.{int64_type, HasOneType}
 use Rattle.sl_frames.specs.Translated.{Code, number_expr, operate, temporary, code_step, code_of}
 use Rattle.sl_frames.specs.Names.{variable_name, temporary_name, place_of}
 use Rattle.sl_frames.proofs.Layers.{code_layer}
-use Rattle.sl_frames.proofs.Meaning.Places.{same_below}
+use Rattle.sl_core.proofs.Slots.{same_below}
 use Rattle.sl_frames.proofs.Meaning.Frames.{Where, does_none, has_variable}
 use Rattle.sl_frames.proofs.Meaning.Operations.{Ready, Stays, stays_constant, Operated, Computed, Halted, operated}
 use Rattle.sl_frames.proofs.Meaning.Related.{Beneath, source_with, HoldsLike, held_in, HoldLike}
 use Rattle.std.proofs.lemmas.Bool.{and_parts}
-use Rattle.sl_frames.proofs.Keeps.Layers.{kind_layer}
+use Rattle.sl_core.proofs.Layers.{kind_layer}
 use Rattle.sl_frames.proofs.Keeps.Tests.{place_is, only_type}
 use Rattle.sl_frames.proofs.Meaning.Kinds.{IsNumeric, of_type, first_numeric, second_numeric, tested, number_fits}
 use Rattle.sl_frames.proofs.Meaning.Expressions.{Evaluated, Gave, Halting, Sticks, same_truth, truth_fits, Good, two, Behind, two_evaluated}

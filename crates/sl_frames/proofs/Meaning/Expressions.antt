@@ -11,7 +11,7 @@ use Rattle.c_tree.specs.declared.tree.CStmt.{CStmt}
 use Rattle.c_tree.specs.Memory.{Tree}
 use Rattle.c_tree.specs.Meaning.{is_int64, truth}
 use Rattle.sl_frames.specs.Translated.{Code}
-use Rattle.sl_frames.proofs.Meaning.Places.{SameBelow, then_below}
+use Rattle.sl_core.proofs.Slots.{SameBelow, then_below}
 use Rattle.sl_frames.proofs.Meaning.Frames.{Where, Does, Halts, does_then, does_halts, halts_then}
 use Rattle.sl_frames.proofs.Meaning.Operations.{Ready, Stays}
 use Rattle.sl_frames.proofs.Meaning.Related.{Beneath, source_with, HoldLike, like_below}

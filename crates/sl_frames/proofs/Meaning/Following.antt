@@ -15,7 +15,7 @@ use Rattle.c_tree.specs.Memory.{Tree}
 use Rattle.c_tree.specs.Meaning.{Next, Broke, Returned, Flow, is_int64, then_on, meaning, block}
 use Rattle.sl_frames.specs.Translated.{Code}
 use Rattle.sl_frames.proofs.Meaning.Frames.{Beside, memory_with, Where, Has, block_append}
-use Rattle.sl_frames.proofs.Meaning.Places.{same_below}
+use Rattle.sl_core.proofs.Slots.{same_below}
 use Rattle.sl_frames.proofs.Meaning.Related.{Beneath, source_with, HoldLike, like_below}
 use Rattle.sl_frames.proofs.Meaning.Expressions.{Evaluated, Gave, Halting, Sticks}
 

@@ -24,7 +24,7 @@ use Rattle.c_helpers.proofs.Quotients.{not_zero, remainder_fits, is_same, is_oth
 use Rattle.sl_frames.specs.Names.{variable_name, temporary_name}
 use Rattle.sl_frames.specs.Translated.{temporary, halt_at_zero, call_helper, set_temporary, where_it_fits, operate}
 use Rattle.sl_frames.specs.Promise.{int64_type}
-use Rattle.sl_frames.proofs.Meaning.Places.{get_set_same, SameBelow, same_below, set_below, then_below}
+use Rattle.sl_core.proofs.Slots.{get_set_same, SameBelow, same_below, set_below, then_below}
 use Rattle.sl_frames.proofs.Meaning.Frames.{Where, Has, Makes, Does, Halts, Named, does_none, does_one, makes_halts, has_variable, makes_assigned, makes_called}
 use Rattle.sl_frames.proofs.Meaning.Helped.{Gives, Helps}
 

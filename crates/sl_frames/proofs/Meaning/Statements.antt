@@ -40,7 +40,7 @@ use Rattle.sl_frames.proofs.Meaning.Frames.{memory_with, pointer_to, Where, bloc
 use Rattle.sl_frames.proofs.Meaning.Operations.{Ready}
 use Rattle.sl_frames.proofs.Meaning.Related.{Beneath, source_with, like_stored}
 use Rattle.std.proofs.lemmas.Bool.{and_parts}
-use Rattle.sl_frames.proofs.Keeps.Layers.{fits_layer, stmt_range_layer}
+use Rattle.sl_core.proofs.Layers.{fits_layer, stmt_range_layer}
 use Rattle.sl_frames.proofs.Keeps.Tests.{place_is}
 use Rattle.sl_frames.proofs.Meaning.Kinds.{IsNumeric, of_type, first_numeric, gotten_fits, gotten_same, some_if}
 use Rattle.sl_frames.proofs.Meaning.Expressions.{Good}
