@@ -5,7 +5,8 @@ use Rattle.std.specs.List.{IsDistinct}
 use Rattle.sl_run.specs.Run.{Trace, Went}
 use Rattle.sl_core.specs.Memory.{Memory, Frame, Number}
 use Rattle.sl_core.specs.Memory as core
-use Rattle.sl_core.specs.Meaning.{with_some, read, truth}
+use Rattle.sl_num.specs.Comparing.{truth}
+use Rattle.sl_core.specs.Meaning.{with_some, read}
 use Rattle.sl_core.specs.Meaning as core_meaning
 use Rattle.sl_plain.specs.declared.line.Kind.{Kind}
 use Rattle.sl_plain.specs.declared.line.Kind.TheVariants as kind

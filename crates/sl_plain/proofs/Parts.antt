@@ -10,7 +10,8 @@ use Rattle.sl_core.specs.declared.tree.CoreStmt.{CoreStmt}
 use Rattle.sl_core.specs.declared.tree.CoreStmt.TheVariants as core
 use Rattle.sl_core.specs.Memory.{Memory, Frame}
 use Rattle.sl_core.specs.Memory as held
-use Rattle.sl_core.specs.Meaning.{Callees, Flow, Next, Broke, Returned, then_on, is_true, truth}
+use Rattle.sl_run.specs.Statements.{Next, Broke, Returned, then_on, in_order}
+use Rattle.sl_core.specs.Meaning.{Callees, Flow, is_true}
 use Rattle.sl_core.specs.Meaning as lowest
 use Rattle.sl_core.proofs.Equations.{text_runs, if_runs, put_runs, halt_runs}
 use Rattle.sl_plain.specs.declared.line.Kind.{Kind}
@@ -35,7 +36,7 @@ OnNext x flow = flow ≡ Next
 module _ (target : Core) (typed : slice_get target.types 0 ≡ Some (Int z_type)) (names : List Declared) (distinct : IsDistinct bytes_eq (map name_of names)) (below : List Frame) (rooms : ℕ) (call : Callees) where
   -- what statements of the core do
   abbrev pub do_all : List CoreStmt → Act Memory Flow
-  do_all stmts = lowest.in_order (map (lowest.meaning target) stmts) call
+  do_all stmts = in_order (map (lowest.meaning target) stmts) call
 
   -- a part of a program and its core do the same, and are never stuck
   abbrev pub Goes : List Declared → List Declared → ℕ → Act Variables (Unit {0}) → List CoreStmt → Type 0

@@ -1,4 +1,5 @@
 pub mod Run
+pub mod Statements
 pub mod Outcome
 pub mod Alike
 pub mod Laws

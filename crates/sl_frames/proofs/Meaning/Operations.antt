@@ -9,14 +9,14 @@ use Rattle.sl_num.specs.declared.arithmetic.Halt.{Halt}
 use Rattle.sl_num.specs.declared.arithmetic.Halt.TheVariants.{Range, Zero}
 use Rattle.sl_num.specs.declared.comparing.Comparison.TheVariants.{Equal}
 use Rattle.sl_num.specs.Arithmetic.{in_type, applied}
-use Rattle.sl_num.specs.Comparing.{holds}
+use Rattle.sl_num.specs.Comparing.{holds, truth}
 use Rattle.sl_core.specs.Meaning.{halt_number}
 use Rattle.c_tree.specs.declared.tree.CExpr.{CExpr}
 use Rattle.c_tree.specs.declared.tree.CExpr.TheVariants.{Binary}
 use Rattle.c_tree.specs.declared.tree.CBinary.TheVariants as binary
 use Rattle.c_tree.specs.declared.tree.CStmt.{CStmt}
 use Rattle.c_tree.specs.Memory.{Tree, Number}
-use Rattle.c_tree.specs.Meaning.{is_int64, is_zero, truth}
+use Rattle.c_tree.specs.Meaning.{is_int64, is_zero}
 use Rattle.c_tree.proofs.Running.{const_runs, binary_runs, compare_runs, if_runs, halt_runs}
 use Rattle.c_helpers.specs.Functions.{constant}
 use Rattle.c_helpers.proofs.Sums.{bounds}
