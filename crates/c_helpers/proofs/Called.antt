@@ -6,14 +6,14 @@ use Rattle.std.proofs.lemmas.List.Elements.{All-from_recursion}
 use Rattle.std.specs.Prelude.{All, map, ℤ, pos, negsuc, ◌+ℤ◌, ◌-ℤ◌, ◌*ℤ◌, int_div, int_rem, int_le, int_lt, ◌≤ℤ◌, ◌<ℤ◌}
 use Rattle.std.proofs.lemmas.Int.{ints}
 use Rattle.sl_num.specs.declared.comparing.Comparison.TheVariants.{Less, LessEqual, Equal}
-use Rattle.sl_num.specs.Comparing.{holds}
+use Rattle.sl_num.specs.Comparing.{holds, truth}
 use Rattle.c_tree.specs.declared.tree.CFile.{CFile}
 use Rattle.c_tree.specs.declared.tree.CFun.{CFun}
 use Rattle.c_tree.specs.declared.tree.CExpr.{CExpr}
 use Rattle.c_tree.specs.declared.tree.CExpr.TheVariants.{Binary, Compare}
 use Rattle.c_tree.specs.declared.tree.CBinary.TheVariants.{Add, Sub, Div, Rem}
 use Rattle.c_tree.specs.declared.tree.CStmt.{CStmt}
-use Rattle.c_tree.specs.Meaning.{is_int64, truth}
+use Rattle.c_tree.specs.Meaning.{is_int64}
 use Rattle.c_helpers.specs.Functions.{constant, named, greatest, least, minus_one, give, if_else, sum_fits, difference_fits, product_fits, quotient_fits, remainder, helper_functions}
 use Rattle.c_helpers.specs.Laws.{Gives, Laws}
 use Rattle.c_helpers.proofs.Frame.{scope_in, two, Yields, Returns, yields_constant, yields_a, yields_b, yields_comparison, yields_sum, yields_difference, yields_quotient, yields_remainder, yields_greatest, yields_least, yields_minus_one, returns_value, returns_by, gives_returned}

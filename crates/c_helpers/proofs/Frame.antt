@@ -2,7 +2,7 @@
 use Rattle.std.proofs.Common.{◌≡◌, ℕ, List, [], ◌∷◌, Bool, true, false, Some, refl, eq-eqb, codes, length}
 use Rattle.std.specs.Prelude.{ℤ, pos, negsuc, ◌+ℤ◌, ◌-ℤ◌, int_div, int_rem}
 use Rattle.sl_num.specs.declared.comparing.Comparison.{Comparison}
-use Rattle.sl_num.specs.Comparing.{holds}
+use Rattle.sl_num.specs.Comparing.{holds, truth}
 use Rattle.sl_run.specs.Run.{Trace, Went}
 use Rattle.c_tree.specs.declared.tree.CBinary.TheVariants.{Add, Sub, Div, Rem}
 use Rattle.c_tree.specs.declared.tree.CFile.{CFile}
@@ -11,7 +11,8 @@ use Rattle.c_tree.specs.declared.tree.CExpr.TheVariants.{Binary, Compare}
 use Rattle.c_tree.specs.declared.tree.CStmt.{CStmt}
 use Rattle.c_tree.specs.Memory.{Tree, Memory, Number, owner_of, with_frame}
 use Rattle.c_tree.specs.Scope.{Scope, scope_of}
-use Rattle.c_tree.specs.Meaning.{Callees, Returned, evaluate, block, is_int64, is_zero, truth, divides}
+use Rattle.sl_run.specs.Statements.{Returned}
+use Rattle.c_tree.specs.Meaning.{Callees, evaluate, block, is_int64, is_zero, divides}
 use Rattle.c_tree.proofs.Running.{const_runs, read_runs, binary_runs, compare_runs, negate_runs, if_else_runs, return_runs}
 use Rattle.c_helpers.specs.Functions.{constant, named, greatest, least, minus_one, give, if_else, helper}
 use Rattle.c_helpers.specs.Laws.{Gives}

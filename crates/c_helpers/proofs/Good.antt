@@ -1,5 +1,5 @@
 -- The inline functions keep the rules, and a text can have them.
-use Rattle.std.proofs.Common.{◌≡◌, ℕ, ◌+◌, ◌-◌, ◌^◌, ◌≤◌, List, [], ◌∷◌, ◌++◌, Some, None, refl, arith, All, Contains, map, codes}
+use Rattle.std.proofs.Common.{◌≡◌, ◌≢◌, ℕ, ◌+◌, ◌-◌, ◌^◌, ◌≤◌, List, [], ◌∷◌, ◌++◌, false, true, Some, None, refl, arith, All, Contains, map, codes}
 use Rattle.std.specs.List.{IsDistinct}
 use Rattle.std.proofs.lemmas.List.Elements.{All-nil, All-cons, All-append, All-map, All-weaker, All-from_recursion}
 use Rattle.sl_num.specs.declared.comparing.Comparison.TheVariants.{Less, LessEqual, Equal}
@@ -16,10 +16,10 @@ use Rattle.c_tree.specs.declared.tree.CExpr.TheVariants.{Binary, Compare, Negate
 use Rattle.c_tree.specs.Words.{IsName, reserved_words}
 use Rattle.c_tree.specs.Scope.{Scope}
 use Rattle.c_tree.specs.WellFormed.{expr_depth}
-use Rattle.c_tree.specs.Rules.{word, NamesClash}
+use Rattle.c_tree.specs.Rules.{var_names, word, NamesClash, some_are, strays, last_is, ends_function}
 use Rattle.c_tree.proofs.Variants.{expression_depths_are, strays_are, ends_are}
 use Rattle.c_helpers.specs.Functions.{constant, named, greatest, least, minus_one, give, if_else, parameter, sum_fits, difference_fits, product_by_positive, product_by_negative, product_fits, quotient_fits, remainder, put_digit, digit, call_digit, powers, put_sign, print}
-use Rattle.c_helpers.proofs.Names.{name_is, none_of, no_clash}
+use Rattle.c_tree.proofs.Names.{name_is, none_of, no_clash}
 use Rattle.c_helpers.proofs.Keeping.{IsKnown, ExprGood, inside, CanCall, StmtGood, FunctionGood}
 use Rattle.c_helpers.proofs.Composing.{constant_good, named_good, binary_good, compare_good, negate_good, assign_good, call_good, return_good, put_good, if_good, if_else_good, deeper}
 
@@ -169,58 +169,34 @@ module _ (file : CFile) (before : List CFun) (function : CFun) where
 
 -- The functions -------------------------------------------------------------------------------------------------------
 
--- statements that nest little don't nest too deep
-shallow : (file : CFile) (before : List CFun) (function : CFun) (depth : ℕ) → depth ≤ 1024 → (body : List CStmt) → All (StmtGood file before function depth) body → All (StmtGood file before function 1024) body
-shallow file before function depth small body good = All-weaker (StmtGood file before function depth) (StmtGood file before function 1024) (deeper file before function depth 1024 small) body good
-
 module _ (file : CFile) (before : List CFun) where
-  pub sum_keeps : FunctionGood file before sum_fits
-  sum_keeps = record {
-    names = two_keep;
-    body = shallow file before sum_fits 12 (omega arith) sum_fits.body (sum_body file before sum_fits (record { spelled = a_is_name; type = refl }) (record { spelled = b_is_name; type = refl }) refl);
-    loops = simp strays_are;
-    ends = λ _. simp ends_are;
+  -- a function whose statements nest little, and keep the rules
+  keeps : (function : CFun) (depth : ℕ) → depth ≤ 1024 → ¬ NamesClash (var_names (function.params ++ function.vars)) → All (StmtGood file before function depth) function.body
+      → some_are (map strays function.body) ≡ false → (function.result ≢ Void → last_is (map ends_function function.body) ≡ true) → FunctionGood file before function
+  keeps function depth small apart good none ending = record {
+    names = apart;
+    body = All-weaker (StmtGood file before function depth) (StmtGood file before function 1024) (deeper file before function depth 1024 small) function.body good;
+    loops = none;
+    ends = ending;
   }
+
+  pub sum_keeps : FunctionGood file before sum_fits
+  sum_keeps = keeps sum_fits 12 (omega arith) two_keep (sum_body file before sum_fits (record { spelled = a_is_name; type = refl }) (record { spelled = b_is_name; type = refl }) refl) (simp strays_are) (λ _. simp ends_are)
 
   pub difference_keeps : FunctionGood file before difference_fits
-  difference_keeps = record {
-    names = two_keep;
-    body = shallow file before difference_fits 12 (omega arith) difference_fits.body (difference_body file before difference_fits (record { spelled = a_is_name; type = refl }) (record { spelled = b_is_name; type = refl }) refl);
-    loops = simp strays_are;
-    ends = λ _. simp ends_are;
-  }
+  difference_keeps = keeps difference_fits 12 (omega arith) two_keep (difference_body file before difference_fits (record { spelled = a_is_name; type = refl }) (record { spelled = b_is_name; type = refl }) refl) (simp strays_are) (λ _. simp ends_are)
 
   pub product_keeps : FunctionGood file before product_fits
-  product_keeps = record {
-    names = two_keep;
-    body = shallow file before product_fits 14 (omega arith) product_fits.body (product_body file before product_fits (record { spelled = a_is_name; type = refl }) (record { spelled = b_is_name; type = refl }) refl);
-    loops = simp strays_are;
-    ends = λ _. simp ends_are;
-  }
+  product_keeps = keeps product_fits 14 (omega arith) two_keep (product_body file before product_fits (record { spelled = a_is_name; type = refl }) (record { spelled = b_is_name; type = refl }) refl) (simp strays_are) (λ _. simp ends_are)
 
   pub quotient_keeps : FunctionGood file before quotient_fits
-  quotient_keeps = record {
-    names = two_keep;
-    body = shallow file before quotient_fits 12 (omega arith) quotient_fits.body (quotient_body file before quotient_fits (record { spelled = a_is_name; type = refl }) (record { spelled = b_is_name; type = refl }) refl);
-    loops = simp strays_are;
-    ends = λ _. simp ends_are;
-  }
+  quotient_keeps = keeps quotient_fits 12 (omega arith) two_keep (quotient_body file before quotient_fits (record { spelled = a_is_name; type = refl }) (record { spelled = b_is_name; type = refl }) refl) (simp strays_are) (λ _. simp ends_are)
 
   pub remainder_keeps : FunctionGood file before remainder
-  remainder_keeps = record {
-    names = two_keep;
-    body = shallow file before remainder 12 (omega arith) remainder.body (remainder_body file before remainder (record { spelled = a_is_name; type = refl }) (record { spelled = b_is_name; type = refl }) refl);
-    loops = simp strays_are;
-    ends = λ _. simp ends_are;
-  }
+  remainder_keeps = keeps remainder 12 (omega arith) two_keep (remainder_body file before remainder (record { spelled = a_is_name; type = refl }) (record { spelled = b_is_name; type = refl }) refl) (simp strays_are) (λ _. simp ends_are)
 
   pub digit_keeps : FunctionGood file before digit
-  digit_keeps = record {
-    names = two_keep;
-    body = shallow file before digit 11 (omega arith) digit.body (digit_body file before digit (record { spelled = a_is_name; type = refl }) (record { spelled = b_is_name; type = refl }));
-    loops = simp strays_are;
-    ends = λ not. absurd (not refl);
-  }
+  digit_keeps = keeps digit 11 (omega arith) two_keep (digit_body file before digit (record { spelled = a_is_name; type = refl }) (record { spelled = b_is_name; type = refl })) (simp strays_are) (λ not. absurd (not refl))
 
   -- where `sl_digit` can be called, its calls are
   module _ (can : CanCall file before print (codes "sl_digit") (parameter (codes "a") ∷ parameter (codes "b") ∷ []) Void) where
@@ -271,15 +247,11 @@ module _ (file : CFile) (before : List CFun) where
         )
 
     pub print_keeps : FunctionGood file before print
-    print_keeps = record {
-      names = one_keeps;
-      body =
-          shallow file before print 10 (omega arith) print.body
-          (All-append (StmtGood file before print 10) put_sign (map call_digit powers ++ put_digit (named (codes "a")) ∷ [])
-          (All-weaker (StmtGood file before print 5) (StmtGood file before print 10) (deeper file before print 5 10 (omega arith)) put_sign (sign_body file before print a_known))
-          (All-append (StmtGood file before print 10) (map call_digit powers) (put_digit (named (codes "a")) ∷ [])
-          (All-map (StmtGood file before print 10) call_digit powers (All-weaker (λ power. power ≤ 2 ^ 63 - 1) (λ power. StmtGood file before print 10 (call_digit power)) calls_digit powers powers_small))
-          (alone file before print 10 (put_digit (named (codes "a"))) (puts_digit file before print (named (codes "a")) (a file before print a_known) (simp expression_depths_are (omega arith))))));
-      loops = simp strays_are;
-      ends = λ not. absurd (not refl);
-    }
+    print_keeps =
+        keeps print 10 (omega arith) one_keeps
+        (All-append (StmtGood file before print 10) put_sign (map call_digit powers ++ put_digit (named (codes "a")) ∷ [])
+        (All-weaker (StmtGood file before print 5) (StmtGood file before print 10) (deeper file before print 5 10 (omega arith)) put_sign (sign_body file before print a_known))
+        (All-append (StmtGood file before print 10) (map call_digit powers) (put_digit (named (codes "a")) ∷ [])
+        (All-map (StmtGood file before print 10) call_digit powers (All-weaker (λ power. power ≤ 2 ^ 63 - 1) (λ power. StmtGood file before print 10 (call_digit power)) calls_digit powers powers_small))
+        (alone file before print 10 (put_digit (named (codes "a"))) (puts_digit file before print (named (codes "a")) (a file before print a_known) (simp expression_depths_are (omega arith))))))
+        (simp strays_are) (λ not. absurd (not refl))

@@ -7,6 +7,5 @@ pub mod Decimal
 pub mod Printed
 pub mod Keeping
 pub mod Composing
-pub mod Names
 pub mod Good
 pub mod Standing

@@ -16,7 +16,9 @@ use Rattle.c_tree.specs.declared.tree.CFun.{CFun}
 use Rattle.c_tree.specs.declared.tree.CStmt.{CStmt}
 use Rattle.c_tree.specs.Memory.{Tree, Memory, Number}
 use Rattle.c_tree.specs.Scope.{Scope, scope_of}
-use Rattle.c_tree.specs.Meaning.{Callees, Next, meaning, block, is_int64, truth, begin_inline, inline_callees, body}
+use Rattle.sl_run.specs.Statements.{Next}
+use Rattle.sl_num.specs.Comparing.{truth}
+use Rattle.c_tree.specs.Meaning.{Callees, meaning, block, is_int64, begin_inline, inline_callees, body}
 use Rattle.c_tree.proofs.Running.{const_runs, read_runs, negate_runs, assign_runs, call_runs, if_runs, if_else_runs, put_runs}
 use Rattle.c_helpers.specs.Functions.{constant, named, put_digit, digit, call_digit, powers, print}
 use Rattle.c_helpers.specs.Laws.{Reaches, Prints}

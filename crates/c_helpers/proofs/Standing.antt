@@ -12,7 +12,7 @@ use Rattle.c_tree.specs.Rules.{BreaksInside}
 use Rattle.c_tree.proofs.Lists.{not_empty, first_in}
 use Rattle.c_helpers.specs.Functions.{parameter, sum_fits, difference_fits, product_fits, quotient_fits, remainder, digit, print, helper_functions}
 use Rattle.c_helpers.specs.Laws.{IsOther}
-use Rattle.c_helpers.proofs.Names.{name_is, none_of, names_differ}
+use Rattle.c_tree.proofs.Names.{name_is, none_of, names_differ}
 use Rattle.c_helpers.proofs.Keeping.{AreAll, CanCall, FunctionGood, formed_body, body_nesting, function_keeps}
 use Rattle.c_helpers.proofs.Good.{a_is_name, b_is_name, sum_keeps, difference_keeps, product_keeps, quotient_keeps, remainder_keeps, digit_keeps, print_keeps}
 

@@ -9,7 +9,8 @@ use Rattle.c_tree.specs.declared.tree.CFun.{CFun}
 use Rattle.c_tree.specs.WellFormed.{IsFunction, stmt_depth}
 use Rattle.c_tree.specs.Rules.{BreaksInside}
 use Rattle.c_tree.specs.Memory.{Tree, Memory, Number}
-use Rattle.c_tree.specs.Meaning.{Callees, is_int64, truth, begin_inline, inline_callees, body}
+use Rattle.sl_num.specs.Comparing.{truth}
+use Rattle.c_tree.specs.Meaning.{Callees, is_int64, begin_inline, inline_callees, body}
 use Rattle.c_helpers.specs.Functions.{sum_fits, difference_fits, product_fits, quotient_fits, remainder, digit, print, helper_functions}
 
 -- A call on these numbers gives a value, whatever calls in it would do. It takes no turn, puts nothing, and leaves memory as it was

@@ -4,7 +4,9 @@ use Rattle.std.specs.Prelude.{nat_le, slice_get, not}
 use Rattle.sl_run.specs.Run.{Act, pure, ◌>>=◌, ◌>>◌, choose, put, get, round_then}
 use Rattle.sl_run.specs.Laws.{Alone}
 use Rattle.sl_run.proofs.Alone.{bind_alone, pure_alone, put_alone, get_alone, choose_alone, turn_alone, round_then_alone, loop_alone, calls_alone}
-use Rattle.c_tree.specs.Meaning.{Flow, Next, Broke, Returned, is_zero, after_round, gotten}
+use Rattle.sl_run.proofs.Statements.{then_on_alone, and_next_alone, round_alone}
+use Rattle.sl_run.specs.Statements.{Next, Broke, Returned, after_round, gotten, then_on, in_order}
+use Rattle.c_tree.specs.Meaning.{Flow, is_zero}
 use Rattle.c_machine.specs.declared.program.Slot.{Slot}
 use Rattle.c_machine.specs.declared.program.Expr.{Expr}
 use Rattle.c_machine.specs.declared.program.Program.{Program}
@@ -12,7 +14,7 @@ use Rattle.c_machine.specs.declared.program.Stmt.{Stmt, Stmt-F, ind-Stmt, map-St
 use Rattle.c_machine.specs.declared.program.Stmt.TheOpen as stmt
 use Rattle.c_machine.specs.State.{State, is_declared}
 use Rattle.c_machine.specs.Values.{value, numbers}
-use Rattle.c_machine.specs.Meaning.{stuck, with_some, with_value, Calls, Meaning, then_on, in_order, write, store_result, has_target, call_to, given, begin, leave, body, begin_inline, put_number, round, rounds, get_to, returned, stmt_step, meaning, functions, enter, called, exit_value}
+use Rattle.c_machine.specs.Meaning.{stuck, with_some, with_value, Calls, Meaning, write, store_result, has_target, call_to, given, begin, leave, body, begin_inline, put_number, round, rounds, get_to, returned, stmt_step, meaning, functions, enter, called, exit_value}
 use Rattle.c_machine.proofs.Layers.{meaning_layer}
 
 -- calls don't look at the events so far
@@ -32,12 +34,6 @@ with_some_alone (Some a) go h = h a
 with_value_alone : {A B : Type 0} (of : State → Option A) (go : A → Act State B) → ((a : A) → Alone (go a)) → Alone (with_value of go)
 with_value_alone of go h earlier t s = with_some_alone (of s) go h earlier t s
 
--- what comes after a statement
-pub then_on_alone : (go : Act State Flow) (flow : Flow) → Alone go → Alone (then_on go flow)
-then_on_alone go Next h = h
-then_on_alone go Broke h = pure_alone Broke
-then_on_alone go (Returned value) h = pure_alone (Returned value)
-
 -- a number that is put
 put_number_alone : (number : ℤ) → Alone (put_number number)
 put_number_alone (pos number) =
@@ -48,14 +44,6 @@ put_number_alone (negsuc below) = stuck_alone
 pub store_result_alone : (target : Option Slot) (value : Option ℤ) → Alone (store_result target value)
 store_result_alone None value = pure_alone tt
 store_result_alone (Some slot) value = with_some_alone value (write slot) (λ number earlier t s. refl)
-
--- one part, and then nothing
-pub and_next_alone : {A : Type 0} (a : Act State A) → Alone a → Alone (a >> pure Next)
-and_next_alone a h = bind_alone a (λ _. pure Next) h (λ _. pure_alone Next)
-
--- a round of a loop
-pub round_alone : (body : Act State Flow) → Alone body → Alone (round body)
-round_alone body h = bind_alone body (λ flow. pure (after_round flow)) h (λ flow. pure_alone (after_round flow))
 
 -- the rounds of a counted loop
 pub rounds_alone : (slot : Slot) (body : Act State Flow) → Alone body → (from count : ℕ) → Alone (rounds slot body from count)

@@ -4,6 +4,7 @@ use Rattle.std.specs.Prelude.{◌⊎◌, slice_get, IfOk, Result, Ok, Err}
 use Rattle.sl_run.specs.Run.{Act, Trace, Step, Went, Over, step_then, ◌>>=◌, ◌>>◌, start}
 use Rattle.sl_run.specs.Outcome.{Outcome, outcome, whole_run}
 use Rattle.c_tree.specs.declared.tree.CFile.{CFile}
+use Rattle.sl_run.specs.Statements.{in_order}
 use Rattle.c_tree.specs.Meaning.{Flow, c_run}
 use Rattle.c_machine.specs.Resolved.{MeansFile}
 use Rattle.c_machine.specs.declared.program.Frame.{Frame}
@@ -17,7 +18,7 @@ use Rattle.c_machine.specs.declared.configuration.Configuration.{Configuration}
 use Rattle.c_machine.specs.declared.machine.Machine.{Machine}
 use Rattle.c_machine.specs.State.{owner_of, with_frame}
 use Rattle.c_machine.specs.State as memory
-use Rattle.c_machine.specs.Meaning.{with_some, begin, in_order, meaning, called, given, leave, in_frame, exit_value, whole, first_state, program_run}
+use Rattle.c_machine.specs.Meaning.{with_some, begin, meaning, called, given, leave, in_frame, exit_value, whole, first_state, program_run}
 use Rattle.c_machine.specs.Resume.{resume}
 use Rattle.c_machine.specs.Stepped.{ending_of, with_left, ahead}
 use Rattle.c_machine.specs.Ran.{stands_after, fresh, begun, HasBegun, Started, ComesTo, Opened}

@@ -12,7 +12,8 @@ use Rattle.c_tree.specs.declared.tree.CType.TheVariants.{Int, Void}
 use Rattle.c_tree.specs.Memory.{Number, Unwritten, Memory}
 use Rattle.c_tree.specs.Memory as c_memory
 use Rattle.c_tree.specs.Scope.{scope_of}
-use Rattle.c_tree.specs.Meaning.{Flow, Next, Broke, Returned, Callees, block, inline_callees}
+use Rattle.sl_run.specs.Statements.{Next, Broke, Returned, in_order}
+use Rattle.c_tree.specs.Meaning.{Flow, Callees, block, inline_callees}
 use Rattle.c_tree.specs.Meaning as c
 use Rattle.c_rules.specs.declared.naming.Names.{Names}
 use Rattle.c_machine.specs.declared.program.Frame.{Frame}
@@ -20,7 +21,7 @@ use Rattle.c_machine.specs.declared.program.Function.{Function}
 use Rattle.c_machine.specs.declared.scopes.Callee.{Callee}
 use Rattle.c_machine.specs.declared.scopes.Variable.{Variable}
 use Rattle.c_machine.specs.State.{State, owner_of, with_frame, without_frame}
-use Rattle.c_machine.specs.Meaning.{Calls, in_order, given, begin, leave, in_frame, body, begin_inline, meaning}
+use Rattle.c_machine.specs.Meaning.{Calls, given, begin, leave, in_frame, body, begin_inline, meaning}
 use Rattle.c_machine.specs.Naming.{AreVars, callee_in}
 use Rattle.c_rules.specs.Naming.{item_named}
 use Rattle.c_machine.specs.Related.{Pairwise, tree_of, FrameFits, Fits, GoesAs, call_of, AreCallees}

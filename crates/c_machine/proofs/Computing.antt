@@ -7,7 +7,7 @@ use Rattle.std.specs.Prelude.{int_div, int_rem, neg_ℤ}
 use Rattle.std.specs.Str.{bytes_eq}
 use Rattle.std.proofs.lemmas.Bool.{cases_lt, lt-ltb, le-ltb}
 use Rattle.sl_num.specs.declared.comparing.Comparison.{Comparison}
-use Rattle.sl_num.specs.Comparing.{holds}
+use Rattle.sl_num.specs.Comparing.{holds, truth}
 use Rattle.sl_run.specs.Run.{Trace, Step, Act, pure, step_then, ◌>>=◌, choose}
 use Rattle.c_tree.specs.declared.tree.CArg.{CArg}
 use Rattle.c_tree.specs.declared.tree.CArg.TheVariants.{Value}
@@ -22,7 +22,7 @@ use Rattle.c_tree.specs.Memory.{Globals, FrameAt, Pointer, Tree, Number, Memory,
 use Rattle.c_tree.specs.Memory as c_memory
 use Rattle.c_tree.specs.Parts.{argument_of}
 use Rattle.c_tree.specs.Scope.{Scope, number_named, var_named, or_else, variable}
-use Rattle.c_tree.specs.Meaning.{kind_is_signed, var_is_signed, place_of, number_in, read_number, located, read_word, evaluate, arguments, same, exact, is_zero, divides, is_int64, truth}
+use Rattle.c_tree.specs.Meaning.{kind_is_signed, var_is_signed, place_of, number_in, read_number, located, read_word, evaluate, arguments, same, exact, is_zero, divides, is_int64}
 use Rattle.c_tree.specs.Meaning as c
 use Rattle.c_tree.proofs.Running.{const_runs, read_runs, binary_runs, compare_runs, negate_runs}
 use Rattle.c_machine.specs.declared.program.Word.{Word}

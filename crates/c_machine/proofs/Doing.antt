@@ -14,7 +14,8 @@ use Rattle.c_tree.specs.declared.tree.CStmt.TheVariants as c_stmt
 use Rattle.c_tree.specs.Memory.{Number, Pointer, Memory}
 use Rattle.c_tree.specs.Parts.{argument_of}
 use Rattle.c_tree.specs.Scope.{Scope}
-use Rattle.c_tree.specs.Meaning.{Flow, Next, Broke, Returned, after_round, gotten, Callees, located, evaluate, arguments, is_zero, write_number, put_value, block}
+use Rattle.sl_run.specs.Statements.{Next, Broke, Returned, after_round, gotten, then_on, in_order}
+use Rattle.c_tree.specs.Meaning.{Flow, Callees, located, evaluate, arguments, is_zero, write_number, put_value, block}
 use Rattle.c_tree.specs.Meaning as c
 use Rattle.c_tree.proofs.Equations as c_is
 use Rattle.c_machine.specs.declared.program.Expr.{Expr}
@@ -26,7 +27,7 @@ use Rattle.c_machine.specs.declared.scopes.Callee.{Callee}
 use Rattle.c_machine.specs.declared.scopes.Callee.TheVariants.{Numbered, Inline, Unknown}
 use Rattle.c_machine.specs.State.{State, is_declared}
 use Rattle.c_machine.specs.Values.{value, numbers}
-use Rattle.c_machine.specs.Meaning.{stuck, with_some, with_value, Calls, then_on, in_order, write, store_result, has_target, call_to, put_number, round, rounds, get_to, returned, meaning}
+use Rattle.c_machine.specs.Meaning.{stuck, with_some, with_value, Calls, write, store_result, has_target, call_to, put_number, round, rounds, get_to, returned, meaning}
 use Rattle.c_machine.specs.Naming.{name_of, ArePlaces}
 use Rattle.c_machine.specs.Related.{Pairwise, Fits, GoesAs, ComputesAs, ValueIs, ArgumentsAre, call_of, AreCallees, DoesAs, DoAs, target_slot, call_stmt}
 use Rattle.c_machine.proofs.Layers.{assign_is, call_is, inline_is, undefined_is, if_is, loop_is, count_is, break_is, return_is, put_is, get_is, halt_is}
@@ -161,7 +162,7 @@ module _ (places : List ℕ → Place) (callees : List ℕ → Callee) where
     pub block_goes : (stmts : List CStmt) (rs : List Stmt) → DoAs places callees stmts rs → GoesAs depth (in_order (map meaning rs) call) (block scope stmts by_name)
     block_goes [] [] are = pure_follows NoneExcused AnyCopies (Fits depth) Same Next Next refl
     block_goes (s ∷ stmts) (r ∷ rs) are =
-        bind_goes depth (meaning r call) (c.meaning scope s by_name) (then_on (in_order (map meaning rs) call)) (c.then_on (block scope stmts by_name)) (are.0.goes scope h call by_name lead depth)
+        bind_goes depth (meaning r call) (c.meaning scope s by_name) (then_on (in_order (map meaning rs) call)) (then_on (block scope stmts by_name)) (are.0.goes scope h call by_name lead depth)
         (λ flow. then_on_goes depth (in_order (map meaning rs) call) (block scope stmts by_name) flow (block_goes stmts rs are.1))
     block_goes [] (r ∷ rs) are = absurd are
     block_goes (s ∷ stmts) [] are = absurd are

@@ -8,8 +8,9 @@ use Rattle.sl_run.specs.Outcome.{trace_of}
 use Rattle.sl_run.specs.Laws.{Alone, step_after}
 use Rattle.sl_outside.specs.Sink.{SinkState, Put}
 use Rattle.sl_outside.specs.Source.{SourceState, Asked}
-use Rattle.c_tree.specs.Meaning.{is_zero, gotten}
-use Rattle.c_tree.specs.Meaning as c
+use Rattle.sl_run.specs.Statements.{gotten}
+use Rattle.sl_run.specs.Statements as statements
+use Rattle.c_tree.specs.Meaning.{is_zero}
 use Rattle.c_machine.specs.declared.program.Slot.{Slot}
 use Rattle.c_machine.specs.declared.program.Word.{Word}
 use Rattle.c_machine.specs.declared.program.Expr.{Expr}
@@ -98,7 +99,7 @@ module _ (m : Configuration) where
     assign_goes x memory' f d h stored =
         quiet (ahead_of (stmt.Assign slot e) m) (weight (stmt.Assign slot e) + work m.control) m.left m.at_end (record m { memory = memory' }) refl
         (λ t. law.assign_goes m.program m.gives m.control slot e x (with_left m.left t) s d h
-        ∙ (ap (resume m.program m.gives m.control c.Next (with_left m.left t)) (sym stored)
+        ∙ (ap (resume m.program m.gives m.control statements.Next (with_left m.left t)) (sym stored)
         ∙ ap (λ flow. resume m.program m.gives m.control (flow_of flow) (with_left m.left t) (state_of memory')) (sym f)))
         (inl (refl, omega (arith, weight_assign slot e)))
 
@@ -235,8 +236,8 @@ module _ (m : Configuration) where
       unfolding ahead ahead_of
       get_same answer memory' at_end stored t gives =
           law.get_goes m.program m.gives m.control slot (with_left m.left t) s d
-          ∙ (ap (λ (first : Option ℕ). resume m.program m.gives m.control c.Next (with_left m.left (seen (Gets answer ∷ []) t)) (with_held slot (gotten first) s)) (gives_taken m.at_end t.rest answer gives)
-          ∙ (ap (resume m.program m.gives m.control c.Next (with_left m.left (seen (Gets answer ∷ []) t))) (sym stored)
+          ∙ (ap (λ (first : Option ℕ). resume m.program m.gives m.control statements.Next (with_left m.left (seen (Gets answer ∷ []) t)) (with_held slot (gotten first) s)) (gives_taken m.at_end t.rest answer gives)
+          ∙ (ap (resume m.program m.gives m.control statements.Next (with_left m.left (seen (Gets answer ∷ []) t))) (sym stored)
           ∙ ap (λ flow. resume m.program m.gives m.control (flow_of flow) (with_left m.left (seen (Gets answer ∷ []) t)) (state_of memory')) (sym f)))
 
       pub get_goes : (answer : Option ℕ) (memory' : Memory) (at_end : Bool) (sink : SinkState) (source source' : SourceState) → state_of memory' ≡ with_held slot (gotten (taken m.at_end answer)) s → at_end ≡ is_none (taken m.at_end answer)
@@ -251,7 +252,7 @@ module _ (m : Configuration) where
       }
 
       -- what is ahead behind it, whatever the answer is
-      get_ahead : (t : Trace) → ahead_of (stmt.Get slot) m t ≡ resume m.program m.gives m.control c.Next (with_left m.left (seen (Gets (first_of t.rest) ∷ []) t)) (with_held slot (gotten (first_of t.rest)) s)
+      get_ahead : (t : Trace) → ahead_of (stmt.Get slot) m t ≡ resume m.program m.gives m.control statements.Next (with_left m.left (seen (Gets (first_of t.rest) ∷ []) t)) (with_held slot (gotten (first_of t.rest)) s)
       unfolding ahead_of
       get_ahead t = law.get_goes m.program m.gives m.control slot (with_left m.left t) s d
 
@@ -260,7 +261,7 @@ module _ (m : Configuration) where
       get_unanswered m' sink source source' left asked = (
         record {
           next =
-              next_of run.Asks (ahead_of (stmt.Get slot) m) (λ t. with_left m.left (seen (Gets (first_of t.rest) ∷ []) t)) (λ t. refl) (λ t. resume m.program m.gives m.control c.Next) (λ t. law.resume_alone m.program m.gives m.control c.Next)
+              next_of run.Asks (ahead_of (stmt.Get slot) m) (λ t. with_left m.left (seen (Gets (first_of t.rest) ∷ []) t)) (λ t. refl) (λ t. resume m.program m.gives m.control statements.Next) (λ t. law.resume_alone m.program m.gives m.control statements.Next)
               (λ t. with_held slot (gotten (first_of t.rest)) s) get_ahead;
           asked = asked;
           unput = refl;
@@ -310,7 +311,7 @@ module _ (m : Configuration) where
     enter_goes bound function frame f z h is =
         quiet (entering target number ns (with_turns left m)) bound m.left m.at_end (entered_in function frame) refl
         (λ t. law.enter_goes m.program m.gives m.control target number ns function (with_left left t) s h
-        ∙ (ap (λ (frame : Frame). resume m.program m.gives (Rest function.body 0 ∷ Back target function.gives ∷ m.control) c.Next (with_left left t) (record { globals = m.memory.globals; frames = frame ∷ m.memory.frames })) (sym is)
+        ∙ (ap (λ (frame : Frame). resume m.program m.gives (Rest function.body 0 ∷ Back target function.gives ∷ m.control) statements.Next (with_left left t) (record { globals = m.memory.globals; frames = frame ∷ m.memory.frames })) (sym is)
         ∙ ap (λ flow. resume m.program m.gives (Rest function.body 0 ∷ Back target function.gives ∷ m.control) (flow_of flow) (with_left left t) (record { globals = m.memory.globals; frames = frame ∷ m.memory.frames })) (sym f)))
         (inr (omega arith))
 
@@ -335,6 +336,6 @@ module _ (m : Configuration) where
     inline_goes ns frame f h is =
         quiet (ahead_of (stmt.Inline target arguments vars gives stmts) m) (weight (stmt.Inline target arguments vars gives stmts) + work m.control) m.left m.at_end (begun frame) refl
         (λ t. law.inline_goes m.program m.gives m.control target arguments vars gives stmts ns (with_left m.left t) s h
-        ∙ (ap (λ (frame : Frame). resume m.program m.gives (Rest stmts 0 ∷ Back target gives ∷ m.control) c.Next (with_left m.left t) (record { globals = m.memory.globals; frames = frame ∷ m.memory.frames })) (sym is)
+        ∙ (ap (λ (frame : Frame). resume m.program m.gives (Rest stmts 0 ∷ Back target gives ∷ m.control) statements.Next (with_left m.left t) (record { globals = m.memory.globals; frames = frame ∷ m.memory.frames })) (sym is)
         ∙ ap (λ flow. resume m.program m.gives (Rest stmts 0 ∷ Back target gives ∷ m.control) (flow_of flow) (with_left m.left t) (record { globals = m.memory.globals; frames = frame ∷ m.memory.frames })) (sym f)))
         (inline_falls frame)

@@ -11,7 +11,8 @@ use Rattle.c_tree.specs.declared.tree.CPlace.TheVariants.{Name}
 use Rattle.c_tree.specs.Memory.{Globals, FrameAt, Pointer, Tree, Number, Memory}
 use Rattle.c_tree.specs.Parts.{argument_of}
 use Rattle.c_tree.specs.Scope.{Scope}
-use Rattle.c_tree.specs.Meaning.{Flow, Next, Broke, Returned, after_round, gotten, Callees, located, place_of, evaluate, arguments, is_zero, write_number, put_value, block}
+use Rattle.sl_run.specs.Statements.{Next, Broke, Returned, after_round, gotten, then_on}
+use Rattle.c_tree.specs.Meaning.{Flow, Callees, located, place_of, evaluate, arguments, is_zero, write_number, put_value, block}
 use Rattle.c_tree.specs.Meaning as c
 use Rattle.c_machine.specs.declared.program.Word.{Word}
 use Rattle.c_machine.specs.declared.program.Slot.{Slot}
@@ -20,7 +21,7 @@ use Rattle.c_machine.specs.declared.program.Expr.{Expr}
 use Rattle.c_machine.specs.declared.scopes.Place.{Place}
 use Rattle.c_machine.specs.State.{State, is_declared}
 use Rattle.c_machine.specs.Values.{value, numbers}
-use Rattle.c_machine.specs.Meaning.{stuck, with_some, with_value, then_on, write, put_number, round, rounds, get_to}
+use Rattle.c_machine.specs.Meaning.{stuck, with_some, with_value, write, put_number, round, rounds, get_to}
 use Rattle.c_machine.specs.Naming.{name_of, ArePlaces}
 use Rattle.c_machine.specs.Related.{Pairwise, Fits, GoesAs, word_of, ComputesAs}
 use Rattle.c_machine.proofs.Fitting.{pointer_to, stuck_fits, local_fits, global_fits}
@@ -90,7 +91,7 @@ module _ (depth : ℕ) where
   put_goes (negsuc below) = stuck_goes Flow
 
   -- what comes after a statement
-  pub then_on_goes : (a : Act State Flow) (b : Act Memory Flow) (flow : Flow) → GoesAs depth a b → GoesAs depth (then_on a flow) (c.then_on b flow)
+  pub then_on_goes : (a : Act State Flow) (b : Act Memory Flow) (flow : Flow) → GoesAs depth a b → GoesAs depth (then_on a flow) (then_on b flow)
   then_on_goes a b Next h = h
   then_on_goes a b Broke h = pure_follows NoneExcused AnyCopies (Fits depth) Same Broke Broke refl
   then_on_goes a b (Returned value) h = pure_follows NoneExcused AnyCopies (Fits depth) Same (Returned value) (Returned value) refl

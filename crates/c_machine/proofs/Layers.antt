@@ -6,7 +6,8 @@ use Rattle.sl_num.specs.declared.comparing.Comparison.{Comparison}
 use Rattle.sl_run.specs.Run.{Trace, Over, Went, pure, over, ◌>>=◌, ◌>>◌, choose, loop}
 use Rattle.sl_run.specs.Run as run
 use Rattle.c_tree.specs.declared.tree.CBinary.{CBinary}
-use Rattle.c_tree.specs.Meaning.{Next, Broke, is_zero}
+use Rattle.sl_run.specs.Statements.{Next, Broke, in_order}
+use Rattle.c_tree.specs.Meaning.{is_zero}
 use Rattle.c_machine.specs.declared.program.Word.{Word}
 use Rattle.c_machine.specs.declared.program.Slot.{Slot}
 use Rattle.c_machine.specs.declared.program.Expr.{Expr, Expr-F, fold-roll-Expr, map-Expr, roll-Expr}
@@ -17,7 +18,7 @@ use Rattle.c_machine.specs.declared.program.Stmt.TheOpen as stmt_layer
 use Rattle.c_machine.specs.declared.program.Stmt.TheVariants as stmt
 use Rattle.c_machine.specs.State.{State, held, is_declared}
 use Rattle.c_machine.specs.Values.{binary, compared, negated, value_step, value}
-use Rattle.c_machine.specs.Meaning.{stuck, with_value, Calls, Meaning, in_order, write, call_to, begin_inline, body, put_number, round, rounds, get_to, returned, stmt_step, meaning}
+use Rattle.c_machine.specs.Meaning.{stuck, with_value, Calls, Meaning, write, call_to, begin_inline, body, put_number, round, rounds, get_to, returned, stmt_step, meaning}
 
 -- Expressions ---------------------------------------------------------------------------------------------------------
 

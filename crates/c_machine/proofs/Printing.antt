@@ -1,6 +1,6 @@
 -- Bytes that are put one after another, each by a call of its own.
 use Rattle.std.proofs.Common.{◌≡◌, ℕ, List, [], ◌∷◌, ◌++◌, subst, inl, inr}
-use Rattle.std.specs.Prelude.{Result, Ok, Err}
+use Rattle.std.specs.Prelude.{Result, Ok}
 use Rattle.sl_outside.specs.declared.source.Failed.{Failed}
 use Rattle.sl_outside.specs.Sink.{SinkState, Prints}
 
@@ -9,12 +9,6 @@ pub prints_then : (xs ys : List ℕ) (a b c : SinkState) (result : Result (Unit 
 prints_then [] ys a b c result h k = subst (λ s. Prints ys s c result) h k
 prints_then (x ∷ xs) ys a b c result (inl (m, put, rest)) k = inl (m, put, prints_then xs ys m b c result rest k)
 prints_then (x ∷ xs) ys a b c result (inr (e, put)) k = absurd (cc e)
-
--- bytes of which one failed stop those behind them
-pub prints_stop : (xs ys : List ℕ) (a b : SinkState) (failed : Failed) → Prints xs a b (Err failed) → Prints (xs ++ ys) a b (Err failed)
-prints_stop [] ys a b failed h = absurd h
-prints_stop (x ∷ xs) ys a b failed (inl (m, put, rest)) = inl (m, put, prints_stop xs ys m b failed rest)
-prints_stop (x ∷ xs) ys a b failed (inr (e, put)) = inr (e, put)
 
 -- the same bytes by another name
 pub prints_same : (a b : SinkState) (xs ys : List ℕ) (result : Result (Unit {0}) Failed) → xs ≡ ys → Prints xs a b result → Prints ys a b result

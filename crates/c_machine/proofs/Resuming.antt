@@ -7,7 +7,8 @@ use Rattle.sl_run.specs.Laws.{Alone}
 use Rattle.sl_run.proofs.Then.{bind_assoc}
 use Rattle.sl_run.proofs.Alone.{bind_alone, round_then_alone, loop_alone}
 use Rattle.sl_run.proofs.Equations.{turn_goes, turn_stops}
-use Rattle.c_tree.specs.Meaning.{Flow, Next, Broke, Returned, is_zero, after_round, gotten}
+use Rattle.sl_run.specs.Statements.{Next, Broke, Returned, after_round, gotten, then_on, in_order}
+use Rattle.c_tree.specs.Meaning.{Flow, is_zero}
 use Rattle.c_machine.specs.declared.program.Slot.{Slot}
 use Rattle.c_machine.specs.declared.program.Word.{Word}
 use Rattle.c_machine.specs.declared.program.Expr.{Expr}
@@ -19,12 +20,13 @@ use Rattle.c_machine.specs.declared.configuration.Entry.{Entry}
 use Rattle.c_machine.specs.declared.configuration.Entry.TheVariants.{Rest, Again, Rounds, Back}
 use Rattle.c_machine.specs.State.{State, owner_of, with_held, is_declared, with_frame, without_frame}
 use Rattle.c_machine.specs.Values.{value, numbers}
-use Rattle.c_machine.specs.Meaning.{stuck, with_some, with_value, then_on, in_order, write, store_result, has_target, call_to, given, begin, leave, body, begin_inline, put_number, round, rounds, get_to, meaning, functions, called, exit_value}
+use Rattle.c_machine.specs.Meaning.{stuck, with_some, with_value, write, store_result, has_target, call_to, given, begin, leave, body, begin_inline, put_number, round, rounds, get_to, meaning, functions, called, exit_value}
 use Rattle.c_machine.specs.Resume.{block, entered, resume}
 use Rattle.c_machine.specs.Stepped.{ready}
 use Rattle.c_machine.proofs.Layers as layer
 use Rattle.c_machine.proofs.Steady.{called_is, loop_again}
-use Rattle.c_machine.proofs.Alone.{then_on_alone, round_alone, rounds_alone, in_order_alone, called_alone, given_alone, left_alone, store_result_alone, and_next_alone, exit_value_alone}
+use Rattle.sl_run.proofs.Statements.{then_on_alone, and_next_alone, round_alone}
+use Rattle.c_machine.proofs.Alone.{rounds_alone, in_order_alone, called_alone, given_alone, left_alone, store_result_alone, exit_value_alone}
 
 module _ (program : Program) (gives : Bool) where
   -- what still happens doesn't look at the events so far

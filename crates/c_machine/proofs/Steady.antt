@@ -4,8 +4,10 @@ use Rattle.std.specs.Prelude.{nat_le, slice_get, not}
 use Rattle.sl_run.specs.Run.{Act, pure, ◌>>=◌, ◌>>◌, choose, put, get, turn, round_then, loop}
 use Rattle.sl_run.specs.Laws.{Agrees, Steady, Respects}
 use Rattle.sl_run.proofs.Steady.{bind_agrees, pure_agrees, put_agrees, get_agrees, choose_agrees, turn_agrees, round_then_agrees, loop_agrees, calls_steady}
+use Rattle.sl_run.proofs.Statements.{then_on_agrees, and_next_agrees, round_agrees}
 use Rattle.sl_run.proofs.Equations.{turn_takes, loop_is, calls_are}
-use Rattle.c_tree.specs.Meaning.{Flow, Next, Broke, Returned, is_zero, after_round, gotten}
+use Rattle.sl_run.specs.Statements.{Next, Broke, Returned, after_round, gotten, then_on, in_order}
+use Rattle.c_tree.specs.Meaning.{Flow, is_zero}
 use Rattle.c_machine.specs.declared.program.Slot.{Slot}
 use Rattle.c_machine.specs.declared.program.Expr.{Expr}
 use Rattle.c_machine.specs.declared.program.Function.{Function}
@@ -14,7 +16,7 @@ use Rattle.c_machine.specs.declared.program.Stmt.{Stmt, Stmt-F, ind-Stmt, map-St
 use Rattle.c_machine.specs.declared.program.Stmt.TheOpen as stmt
 use Rattle.c_machine.specs.State.{State, is_declared}
 use Rattle.c_machine.specs.Values.{value, numbers}
-use Rattle.c_machine.specs.Meaning.{stuck, with_some, with_value, Calls, Meaning, then_on, in_order, write, store_result, has_target, call_to, given, begin, leave, body, begin_inline, put_number, round, rounds, get_to, returned, stmt_step, meaning, functions, enter, called}
+use Rattle.c_machine.specs.Meaning.{stuck, with_some, with_value, Calls, Meaning, write, store_result, has_target, call_to, given, begin, leave, body, begin_inline, put_number, round, rounds, get_to, returned, stmt_step, meaning, functions, enter, called}
 use Rattle.c_machine.proofs.Layers.{meaning_layer}
 
 -- what two ways of calling functions have in common
@@ -35,12 +37,6 @@ module _ (n : ℕ) where
   with_value_agrees : {A B : Type 0} (of : State → Option A) (go go' : A → Act State B) → ((a : A) → Agrees n (go a) (go' a)) → Agrees n (with_value of go) (with_value of go')
   with_value_agrees of go go' h t s le = with_some_agrees (of s) go go' h t s le
 
-  -- what comes after a statement
-  then_on_agrees : (go go' : Act State Flow) (flow : Flow) → Agrees n go go' → Agrees n (then_on go flow) (then_on go' flow)
-  then_on_agrees go go' Next h = h
-  then_on_agrees go go' Broke h = pure_agrees n Broke
-  then_on_agrees go go' (Returned value) h = pure_agrees n (Returned value)
-
   -- a number that is put
   put_number_agrees : (number : ℤ) → Agrees n (put_number number) (put_number number)
   put_number_agrees (pos number) =
@@ -58,17 +54,9 @@ module _ (n : ℕ) where
   store_result_agrees None value = pure_agrees n tt
   store_result_agrees (Some slot) value = with_some_agrees value (write slot) (write slot) (write_agrees slot)
 
-  -- one part, and then nothing
-  and_next : {A : Type 0} (a b : Act State A) → Agrees n a b → Agrees n (a >> pure Next) (b >> pure Next)
-  and_next a b h = bind_agrees n a b (λ _. pure Next) (λ _. pure Next) h (λ _. pure_agrees n Next)
-
-  -- a round of a loop
-  round_agrees : (body body' : Act State Flow) → Agrees n body body' → Agrees n (round body) (round body')
-  round_agrees body body' h = bind_agrees n body body' (λ flow. pure (after_round flow)) (λ flow. pure (after_round flow)) h (λ flow. pure_agrees n (after_round flow))
-
   -- the rounds of a counted loop
   rounds_agree : (slot : Slot) (body body' : Act State Flow) → Agrees n body body' → (from count : ℕ) → Agrees n (rounds slot body from count) (rounds slot body' from count)
-  rounds_agree slot body body' h from zero = and_next (write slot (pos from)) (write slot (pos from)) (write_agrees slot (pos from))
+  rounds_agree slot body body' h from zero = and_next_agrees n (write slot (pos from)) (write slot (pos from)) (write_agrees slot (pos from))
   rounds_agree slot body body' h from (suc count) =
       let rest : Act State Flow = rounds slot body (suc from) count in
       let rest' : Act State Flow = rounds slot body' (suc from) count in
@@ -87,7 +75,7 @@ module _ (n : ℕ) where
       let go : Act State (Unit {0}) = with_value (numbers arguments) call >>= store_result target in
       let go' : Act State (Unit {0}) = with_value (numbers arguments) call' >>= store_result target in
       choose_agrees n (has_target target) (go >> pure Next) stuck (go' >> pure Next) stuck
-      (and_next go go' (bind_agrees n (with_value (numbers arguments) call) (with_value (numbers arguments) call') (store_result target) (store_result target) (with_value_agrees (numbers arguments) call call' h) (store_result_agrees target)))
+      (and_next_agrees n go go' (bind_agrees n (with_value (numbers arguments) call) (with_value (numbers arguments) call') (store_result target) (store_result target) (with_value_agrees (numbers arguments) call call' h) (store_result_agrees target)))
       stuck_agrees
 
   -- what a function gives
@@ -128,7 +116,7 @@ module _ (n : ℕ) where
       let rest = in_order (map meaning (map only ms)) call in
       let rest' = in_order (map meaning (map only ms)) call' in
       bind_agrees n (meaning m.0 call) (meaning m.0 call') (then_on rest) (then_on rest') (m.1 call call' h)
-      (λ flow. then_on_agrees rest rest' flow (in_order_known ms call call' h))
+      (λ flow. then_on_agrees n rest rest' flow (in_order_known ms call call' h))
 
   -- a statement
   pub meaning_agrees : (s : Stmt) (call call' : Calls) → AgreeingCalls n call call' → Agrees n (meaning s call) (meaning s call')
@@ -144,7 +132,7 @@ module _ (n : ℕ) where
           let stored : Act State (Unit {0}) = with_value (value e) (λ x. write slot x.number) in
           via (stmt.Assign slot e)
           (λ call call' h. choose_agrees n (is_declared slot) (stored >> pure Next) stuck (stored >> pure Next) stuck
-          (and_next stored stored (with_value_agrees (value e) (λ x. write slot x.number) (λ x. write slot x.number) (λ x. write_agrees slot x.number)))
+          (and_next_agrees n stored stored (with_value_agrees (value e) (λ x. write slot x.number) (λ x. write slot x.number) (λ x. write_agrees slot x.number)))
           stuck_agrees)
       layer (stmt.Call target arguments function) = via (stmt.Call target arguments function) (λ call call' h. call_to_agrees target arguments (call function) (call' function) (h function))
       layer (stmt.Inline target arguments vars gives stmts) =
@@ -164,7 +152,7 @@ module _ (n : ℕ) where
           (λ x. choose_agrees n (not (is_zero x.number)) (first call) (second call) (first call') (second call') (in_order_known chosen call call' h) (in_order_known other call call' h)))
       layer (stmt.Loop stmts) =
           let inside = λ (call : Calls). in_order (map meaning (map only stmts)) call in
-          via (stmt.Loop (map only stmts)) (λ call call' h. loop_agrees n (round (inside call)) (round (inside call')) (round_agrees (inside call) (inside call') (in_order_known stmts call call' h)))
+          via (stmt.Loop (map only stmts)) (λ call call' h. loop_agrees n (round (inside call)) (round (inside call')) (round_agrees n (inside call) (inside call') (in_order_known stmts call call' h)))
       layer (stmt.Count slot count stmts) =
           let inside = λ (call : Calls). in_order (map meaning (map only stmts)) call in
           via (stmt.Count slot count (map only stmts))
@@ -173,7 +161,7 @@ module _ (n : ℕ) where
       layer (stmt.Return value) = via (stmt.Return value) (λ call call' h. returned_agrees value)
       layer (stmt.Put e) = via (stmt.Put e) (λ call call' h. with_value_agrees (value e) (λ x. put_number x.number) (λ x. put_number x.number) (λ x. put_number_agrees x.number))
       layer (stmt.Get slot) =
-          via (stmt.Get slot) (λ call call' h. choose_agrees n (is_declared slot) (get_to slot >> pure Next) stuck (get_to slot >> pure Next) stuck (and_next (get_to slot) (get_to slot) (get_to_agrees slot)) stuck_agrees)
+          via (stmt.Get slot) (λ call call' h. choose_agrees n (is_declared slot) (get_to slot >> pure Next) stuck (get_to slot >> pure Next) stuck (and_next_agrees n (get_to slot) (get_to slot) (get_to_agrees slot)) stuck_agrees)
       layer (stmt.Halt kind file line) = via (stmt.Halt kind file line) (λ call call' h t s le. (refl, le))
 
   -- statements in order
@@ -183,7 +171,7 @@ module _ (n : ℕ) where
       let rest = in_order (map meaning stmts) call in
       let rest' = in_order (map meaning stmts) call' in
       bind_agrees n (meaning s call) (meaning s call') (then_on rest) (then_on rest') (meaning_agrees s call call' h)
-      (λ flow. then_on_agrees rest rest' flow (in_order_agrees stmts call call' h))
+      (λ flow. then_on_agrees n rest rest' flow (in_order_agrees stmts call call' h))
 
 -- functions agree where what their calls do agrees
 pub functions_respect : (program : Program) → Respects (functions program)

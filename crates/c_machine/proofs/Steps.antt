@@ -5,8 +5,8 @@ use Rattle.std.proofs.lemmas.List.Sums.{sum_by-cons}
 use Rattle.sl_run.specs.Run.{Event, Trace, Step, Went, Over, pure}
 use Rattle.sl_run.specs.Run as run
 use Rattle.sl_run.specs.Outcome.{outcome, trace_of}
-use Rattle.c_tree.specs.Meaning.{after_round}
-use Rattle.c_tree.specs.Meaning as c
+use Rattle.sl_run.specs.Statements.{after_round}
+use Rattle.sl_run.specs.Statements as statements
 use Rattle.c_machine.specs.declared.program.Slot.{Slot}
 use Rattle.c_machine.specs.declared.program.Stmt.{Stmt}
 use Rattle.c_machine.specs.declared.memory.Memory.{Memory}
@@ -66,7 +66,7 @@ stepped_as (Ok (Ended end)) before before' bound bound' left at_end m a b e le h
 stepped_as (Err f) before before' bound bound' left at_end m a b e le h = faulted_as f before before' left m a b e h
 
 -- only one way of being left goes on
-pub next_only : (flow : Flow) → flow_of flow ≡ c.Next → flow ≡ Next
+pub next_only : (flow : Flow) → flow_of flow ≡ statements.Next → flow ≡ Next
 next_only Next e = refl
 next_only Broke e = absurd (cc e)
 next_only (Returned value) e = absurd (cc e)
@@ -122,7 +122,7 @@ module _ (m : Configuration) where
       quiet (ahead (backed target gives)) (work (Back target gives ∷ m.control)) m.left m.at_end (record m { memory = memory'; flow = Next }) refl
       (λ t. ap (λ (target : Option Slot). resume m.program m.gives (Back target gives ∷ m.control) (flow_of m.flow) (with_left m.left t) s) n
       ∙ (law.back_none m.program m.gives m.control gives (flow_of m.flow) value (with_left m.left t) s g
-      ∙ ap (resume m.program m.gives m.control c.Next (with_left m.left t)) (sym f)))
+      ∙ ap (resume m.program m.gives m.control statements.Next (with_left m.left t)) (sym f)))
       (back_falls target gives memory')
 
   pub back_stores : (target : Option Slot) (slot : Slot) (gives : Bool) (number : ℤ) (left' memory' : Memory) → target ≡ Some slot → given gives (flow_of m.flow) ≡ pure (Some number) → state_of left' ≡ without_frame s → state_of memory' ≡ with_held slot number (state_of left')
@@ -132,7 +132,7 @@ module _ (m : Configuration) where
       quiet (ahead (backed target gives)) (work (Back target gives ∷ m.control)) m.left m.at_end (record m { memory = memory'; flow = Next }) refl
       (λ t. ap (λ (target : Option Slot). resume m.program m.gives (Back target gives ∷ m.control) (flow_of m.flow) (with_left m.left t) s) n
       ∙ (law.back_stores m.program m.gives m.control slot gives (flow_of m.flow) number (with_left m.left t) s g
-      ∙ ap (resume m.program m.gives m.control c.Next (with_left m.left t)) (sym (h ∙ ap (with_held slot number) f))))
+      ∙ ap (resume m.program m.gives m.control statements.Next (with_left m.left t)) (sym (h ∙ ap (with_held slot number) f))))
       (back_falls target gives memory')
 
   pub back_nothing : (target : Option Slot) (slot : Slot) (gives : Bool) (memory' : Memory) → target ≡ Some slot → given gives (flow_of m.flow) ≡ pure None → state_of memory' ≡ without_frame s
@@ -247,7 +247,7 @@ module _ (m : Configuration) where
         quiet (ahead counting) counting_work m.left m.at_end (record m { memory = memory' }) refl
         (λ t. ap (λ flow. resume m.program m.gives (Rounds slot from count stmts ∷ m.control) (flow_of flow) (with_left m.left t) s) e
         ∙ (law.rounds_end m.program m.gives m.control slot from count stmts (with_left m.left t) s (omega arith)
-        ∙ (ap (resume m.program m.gives m.control c.Next (with_left m.left t)) (sym stored)
+        ∙ (ap (resume m.program m.gives m.control statements.Next (with_left m.left t)) (sym stored)
         ∙ ap (λ flow. resume m.program m.gives m.control (flow_of flow) (with_left m.left t) (state_of memory')) (sym e))))
         (count_falls m.flow memory')
 
@@ -266,7 +266,7 @@ module _ (m : Configuration) where
         quiet (ahead counting) counting_work m.left m.at_end (rounding memory') refl
         (λ t. ap (λ flow. resume m.program m.gives (Rounds slot from count stmts ∷ m.control) (flow_of flow) (with_left m.left t) s) e
         ∙ (law.rounds_go m.program m.gives m.control slot from count stmts (with_left m.left t) s one
-        ∙ (ap (resume m.program m.gives (Rest stmts 0 ∷ Rounds slot (from + 1) count stmts ∷ m.control) c.Next (with_left m.left t)) (sym stored)
+        ∙ (ap (resume m.program m.gives (Rest stmts 0 ∷ Rounds slot (from + 1) count stmts ∷ m.control) statements.Next (with_left m.left t)) (sym stored)
         ∙ ap (λ flow. resume m.program m.gives (Rest stmts 0 ∷ Rounds slot (from + 1) count stmts ∷ m.control) (flow_of flow) (with_left m.left t) (state_of memory')) (sym e))))
         (round_falls memory' one)
 

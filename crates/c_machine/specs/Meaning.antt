@@ -1,9 +1,10 @@
 -- What a resolved program does, as a run. It is the meaning of C with numbers for names and no bytes of frames.
-use Rattle.std.specs.Prelude.{ℕ, zero, suc, ℤ, pos, negsuc, List, [], ◌∷◌, Bool, true, false, not, nat_le, Option, None, Some, map, replicate, slice_get}
+use Rattle.std.specs.Prelude.{ℕ, zero, suc, ℤ, pos, negsuc, List, [], Bool, true, false, not, nat_le, Option, None, Some, map, replicate, slice_get}
 use Rattle.sl_run.specs.Run.{Stuck, Act, Over, Went, pure, over, ◌>>=◌, ◌>>◌, choose, put, get, turn, round_then, loop, calls}
 use Rattle.sl_run.specs.Run as run
+use Rattle.sl_run.specs.Statements.{Next, Broke, Returned, in_order, after_round, gotten}
 use Rattle.sl_run.specs.Outcome.{Outcome, whole_run}
-use Rattle.c_tree.specs.Meaning.{Flow, Next, Broke, Returned, is_zero, after_round, gotten}
+use Rattle.c_tree.specs.Meaning.{Flow, is_zero}
 use Rattle.c_machine.specs.declared.program.Slot.{Slot}
 use Rattle.c_machine.specs.declared.program.Expr.{Expr}
 use Rattle.c_machine.specs.declared.program.Stmt.{Stmt, Stmt-F, fold-Stmt}
@@ -34,17 +35,6 @@ Calls = ℕ → List ℤ → Act State (Option ℤ)
 -- what a statement does, given what calls do
 abbrev pub Meaning : Type 0
 Meaning = Calls → Act State Flow
-
--- what comes after a statement that was left so
-abbrev pub then_on : Act State Flow → Flow → Act State Flow
-then_on go Next = go
-then_on go Broke = pure Broke
-then_on go (Returned value) = pure (Returned value)
-
--- statements in order, up to a break or a return
-abbrev pub in_order : List Meaning → Meaning
-in_order [] call = pure Next
-in_order (m ∷ ms) call = m call >>= then_on (in_order ms call)
 
 -- a number is stored in a variable
 abbrev pub write : Slot → ℤ → Act State (Unit {0})

@@ -1,14 +1,15 @@
 -- What still happens from a configuration of the machine.
 use Rattle.std.specs.Prelude.{ℤ, ◌-◌, List, [], ◌∷◌, Bool, map, drop}
 use Rattle.sl_run.specs.Run.{Act, pure, ◌>>=◌, ◌>>◌, round_then, loop}
-use Rattle.c_tree.specs.Meaning.{Flow, Next, after_round}
+use Rattle.sl_run.specs.Statements.{Next, after_round, then_on, in_order}
+use Rattle.c_tree.specs.Meaning.{Flow}
 use Rattle.c_machine.specs.declared.program.Program.{Program}
 use Rattle.c_machine.specs.declared.program.Stmt.{Stmt}
 use Rattle.c_machine.specs.declared.memory.Memory.{Memory}
 use Rattle.c_machine.specs.declared.configuration.Entry.{Entry}
 use Rattle.c_machine.specs.declared.configuration.Entry.TheVariants.{Rest, Again, Rounds, Back}
 use Rattle.c_machine.specs.State.{State}
-use Rattle.c_machine.specs.Meaning.{then_on, in_order, round, rounds, meaning, called, given, leave, store_result, exit_value}
+use Rattle.c_machine.specs.Meaning.{round, rounds, meaning, called, given, leave, store_result, exit_value}
 
 -- a memory of the machine, as a state of the run
 abbrev pub state_of : Memory → State

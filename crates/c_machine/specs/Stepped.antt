@@ -5,6 +5,7 @@ use Rattle.sl_run.specs.Run as run
 use Rattle.sl_run.specs.Outcome.{outcome, ended, trace_of}
 use Rattle.sl_outside.specs.Sink.{Put}
 use Rattle.sl_outside.specs.Source.{Asked}
+use Rattle.sl_run.specs.Statements as statements
 use Rattle.c_tree.specs.Meaning as c
 use Rattle.c_machine.specs.declared.program.Slot.{Slot}
 use Rattle.c_machine.specs.declared.program.Expr.{Expr}
@@ -29,9 +30,9 @@ use Rattle.c_machine.specs.Outside.{Deed, answers, Gives, ended_after, seen, Out
 
 -- how the last statement was left, as its meaning says it
 abbrev pub flow_of : Flow → c.Flow
-flow_of Next = c.Next
-flow_of Broke = c.Broke
-flow_of (Returned value) = c.Returned value
+flow_of Next = statements.Next
+flow_of Broke = statements.Broke
+flow_of (Returned value) = statements.Returned value
 
 -- how a run is over that the machine ends so
 abbrev pub ending_of : End → Ending
@@ -67,7 +68,7 @@ with_turns left m = record m { left = left }
 -- the same with a function before it that begins, after its turn, and whose result is stored
 unfoldable pub entering : Option Slot → ℕ → List ℤ → Configuration → Ahead
 entering target number arguments m t =
-    (functions m.program (called m.program) number arguments >>= store_result target >> pure c.Next >>= resume m.program m.gives m.control) (with_left m.left t) (state_of m.memory)
+    (functions m.program (called m.program) number arguments >>= store_result target >> pure statements.Next >>= resume m.program m.gives m.control) (with_left m.left t) (state_of m.memory)
 
 -- the machine with something else still to be done
 abbrev pub with_control : Configuration → List Entry → Configuration

@@ -3,10 +3,10 @@ use Rattle.std.specs.Prelude.{ℤ, pos, neg_ℤ, ◌^◌, int_div, int_rem, List
 use Rattle.std.specs.Int.{int_rem_euclid}
 use Rattle.std.specs.Option.{option_and_then}
 use Rattle.sl_num.specs.declared.comparing.Comparison.{Comparison}
-use Rattle.sl_num.specs.Comparing.{holds}
+use Rattle.sl_num.specs.Comparing.{holds, truth}
 use Rattle.c_tree.specs.declared.tree.CBinary.{CBinary}
 use Rattle.c_tree.specs.declared.tree.CBinary.TheVariants.{Rem}
-use Rattle.c_tree.specs.Meaning.{is_zero, same, exact, divides, is_int64, truth}
+use Rattle.c_tree.specs.Meaning.{is_zero, same, exact, divides, is_int64}
 use Rattle.c_machine.specs.declared.program.Word.{Word}
 use Rattle.c_machine.specs.declared.program.Expr.{Expr, Expr-F, fold-Expr}
 use Rattle.c_machine.specs.declared.program.Expr.TheOpen as expr

@@ -2,7 +2,8 @@ ghost use Rattle.std.specs.Prelude.{◌≡◌, [], ◌∷◌, ◌+◌, ◌-◌, 
 ghost use Rattle.sl_run.specs.Run.{pure};
 ghost use Rattle.sl_outside.specs.Sink.{SinkState, sink_state};
 ghost use Rattle.sl_outside.specs.Source.{SourceState, source_state};
-ghost use Rattle.c_tree.specs.Meaning.{after_round, gotten, is_zero};
+ghost use Rattle.sl_run.specs.Statements.{after_round, gotten};
+ghost use Rattle.c_tree.specs.Meaning.{is_zero};
 ghost use Rattle.c_machine.specs.declared.configuration.Entry.TheVariants.{Rest, Again, Rounds, Back};
 ghost use Rattle.c_machine.specs.declared.configuration.Flow.TheVariants.{Next};
 ghost use Rattle.c_machine.specs.declared.ending.End.TheVariants.{Stuck};

@@ -3,10 +3,11 @@ use Rattle.std.proofs.Common.{ℕ, zero, suc, ◌+◌, ℤ, List, [], ◌∷◌,
 use Rattle.std.specs.Prelude.{true, pos, negsuc, neg_ℤ, nat_le, int_div, int_rem, reverse, slice_get, not, ◌&&◌}
 use Rattle.std.specs.Str.{bytes_eq}
 use Rattle.sl_num.specs.declared.comparing.Comparison.{Comparison}
-use Rattle.sl_num.specs.Comparing.{holds}
+use Rattle.sl_num.specs.Comparing.{holds, truth}
 use Rattle.sl_run.specs.Run.{Act, pure, ◌>>=◌, ◌>>◌, choose, put, get, round_then, calls}
 use Rattle.sl_run.specs.Laws.{Alone}
 use Rattle.sl_run.proofs.Alone.{bind_alone, pure_alone, put_alone, get_alone, choose_alone, round_then_alone, loop_alone, turn_within_by_alone, calls_alone}
+use Rattle.sl_run.proofs.Statements.{then_on_alone, and_next_alone, round_alone}
 use Rattle.c_tree.specs.declared.tree.CFile.{CFile}
 use Rattle.c_tree.specs.declared.tree.CType.{CType}
 use Rattle.c_tree.specs.declared.tree.CType.TheVariants.{Int, Void}
@@ -24,7 +25,8 @@ use Rattle.c_tree.specs.declared.tree.CExpr.TheOpen as expr
 use Rattle.c_tree.specs.Bytes.{charge}
 use Rattle.c_tree.specs.Scope.{Scope, scope_of}
 use Rattle.c_tree.specs.Memory.{Pointer, Tree, Number, Memory, live, held}
-use Rattle.c_tree.specs.Meaning.{Flow, Next, Broke, Returned, Callees, stuck, with_some, place_of, located, number_in, read_number, write_number, is_zero, same, Word, exact, divides, is_int64, int64, uint64, int64_of, binary_at, binary, truth, compared, negated, place_is_signed, read_word, expr_step, evaluate, arguments, Meaning, then_on, after_round, rounds, gotten, put_value, store_result, call_to, returned, stmt_step, meaning, block, given, begin, leave, body, begin_inline, inline_callees, number_of, numbered_call, callees, functions, charge_of, enter, run_callees}
+use Rattle.sl_run.specs.Statements.{Next, Broke, Returned, then_on, after_round, gotten}
+use Rattle.c_tree.specs.Meaning.{Flow, Callees, stuck, with_some, place_of, located, number_in, read_number, write_number, is_zero, same, Word, exact, divides, is_int64, int64, uint64, int64_of, binary_at, binary, compared, negated, place_is_signed, read_word, expr_step, evaluate, arguments, Meaning, rounds, put_value, store_result, call_to, returned, stmt_step, meaning, block, given, begin, leave, body, begin_inline, inline_callees, number_of, numbered_call, callees, functions, charge_of, enter, run_callees}
 use Rattle.c_tree.proofs.Layers.{evaluate_layer, meaning_layer}
 
 -- Values --------------------------------------------------------------------------------------------------------------
@@ -135,12 +137,6 @@ module _ (scope : Scope) where
 
 -- Statements ----------------------------------------------------------------------------------------------------------
 
--- what comes after a statement
-pub then_on_alone : (go : Act Memory Flow) (flow : Flow) → Alone go → Alone (then_on go flow)
-then_on_alone go Next h = h
-then_on_alone go Broke h = pure_alone Broke
-then_on_alone go (Returned value) h = pure_alone (Returned value)
-
 -- a number that is put
 put_value_alone : (number : ℤ) → Alone (put_value number)
 put_value_alone (pos number) =
@@ -153,17 +149,9 @@ put_value_alone (negsuc below) = stuck_alone
 store_result_alone : (pointer : Pointer) (value : Option ℤ) → Alone (store_result pointer value)
 store_result_alone pointer value = with_some_alone value (write_number pointer) (write_number_alone pointer)
 
--- one part, and then nothing
-and_next : {A : Type 0} (a : Act Memory A) → Alone a → Alone (a >> pure Next)
-and_next a h = bind_alone a (λ _. pure Next) h (λ _. pure_alone Next)
-
--- how a loop is left after a round
-round_alone : (body : Act Memory Flow) → Alone body → Alone (body >>= (λ flow. pure (after_round flow)))
-round_alone body h = bind_alone body (λ flow. pure (after_round flow)) h (λ flow. pure_alone (after_round flow))
-
 -- the rounds of a counted loop
 pub rounds_alone : (pointer : Pointer) (body : Act Memory Flow) → Alone body → (from count : ℕ) → Alone (rounds pointer body from count)
-rounds_alone pointer body h from zero = and_next (write_number pointer (pos from)) (write_number_alone pointer (pos from))
+rounds_alone pointer body h from zero = and_next_alone (write_number pointer (pos from)) (write_number_alone pointer (pos from))
 rounds_alone pointer body h from (suc count) =
     let rest : Act Memory Flow = rounds pointer body (suc from) count in
     bind_alone (write_number pointer (pos from)) (λ _. body >>= (λ flow. round_then (after_round flow) rest)) (write_number_alone pointer (pos from))
@@ -197,10 +185,10 @@ module _ (scope : Scope) where
 
   -- a call
   call_to_alone : (target : Option CPlace) (name : List ℕ) (args : List CArg) (call : Callees) → ((name : List ℕ) (args : List Tree) → Alone (call name args)) → Alone (call_to scope target name args call)
-  call_to_alone None name args call h = and_next (arguments scope args >>= call name) (called_alone name args call h)
+  call_to_alone None name args call h = and_next_alone (arguments scope args >>= call name) (called_alone name args call h)
   call_to_alone (Some place) name args call h =
       let stored : Pointer → Act Memory (Unit {0}) = λ pointer. arguments scope args >>= call name >>= store_result pointer in
-      and_next (located scope place >>= stored)
+      and_next_alone (located scope place >>= stored)
       (bind_alone (located scope place) stored (located_alone scope place)
       (λ pointer. bind_alone (arguments scope args >>= call name) (store_result pointer) (called_alone name args call h) (store_result_alone pointer)))
 
@@ -239,7 +227,7 @@ module _ (scope : Scope) where
       -- each layer, where it is known of the parts
       layer : (y : CStmt-F Certain) → Calm (roll-CStmt (map-CStmt Certain CStmt only y))
       layer (stmt.Assign place e) =
-          via (stmt.Assign place e) (λ call h. and_next (located scope place >>= (λ pointer. evaluate scope e >>= (λ x. write_number pointer x.number))) (assign_alone place e))
+          via (stmt.Assign place e) (λ call h. and_next_alone (located scope place >>= (λ pointer. evaluate scope e >>= (λ x. write_number pointer x.number))) (assign_alone place e))
       layer (stmt.Call target name args) = via (stmt.Call target name args) (call_to_alone target name args)
       layer (stmt.If test chosen None) =
           via (stmt.If test (map only chosen) None) (λ call h. if_alone test (block scope (map only chosen) call) (pure Next) (in_order_known chosen call h) (pure_alone Next))
@@ -255,7 +243,7 @@ module _ (scope : Scope) where
       layer (stmt.Return value) = via (stmt.Return value) (λ call h. returned_alone value)
       layer (stmt.Put e) = via (stmt.Put e) (λ call h. bind_alone (evaluate scope e) (λ x. put_value x.number) (evaluate_alone scope e) (λ x. put_value_alone x.number))
       layer (stmt.Get place) =
-          via (stmt.Get place) (λ call h. and_next (located scope place >>= (λ pointer. get >>= (λ byte. write_number pointer (gotten byte)))) (get_to_alone place))
+          via (stmt.Get place) (λ call h. and_next_alone (located scope place >>= (λ pointer. get >>= (λ byte. write_number pointer (gotten byte)))) (get_to_alone place))
       layer (stmt.Halt kind file line) = via (stmt.Halt kind file line) (λ call h earlier t s. refl)
 
 module _ (scope : Scope) (call : Callees) (h : (name : List ℕ) (args : List Tree) → Alone (call name args)) where

@@ -20,7 +20,8 @@ use Rattle.c_tree.specs.declared.tree.CStmt.TheOpen as stmt_layer
 use Rattle.c_tree.specs.declared.tree.CStmt.TheVariants as stmt
 use Rattle.c_tree.specs.Scope.{Scope}
 use Rattle.c_tree.specs.Memory.{Pointer, Tree, Memory}
-use Rattle.c_tree.specs.Meaning.{Flow, Next, Broke, Returned, Callees, located, write_number, is_zero, binary, compared, negated, read_word, evaluate, arguments, after_round, rounds, gotten, put_value, store_result, meaning, block}
+use Rattle.sl_run.specs.Statements.{Next, Broke, Returned, after_round, gotten}
+use Rattle.c_tree.specs.Meaning.{Flow, Callees, located, write_number, is_zero, binary, compared, negated, read_word, evaluate, arguments, rounds, put_value, store_result, meaning, block}
 use Rattle.c_tree.proofs.Layers.{evaluate_layer, meaning_layer}
 use Rattle.c_tree.proofs.Steady.{block_steady}
 

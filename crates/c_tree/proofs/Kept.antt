@@ -6,7 +6,6 @@ use Rattle.std.proofs.Common.{◌≡◌, ◌≢◌, ◌⊎◌, ℕ, ◌^◌, ◌
 use Rattle.std.specs.Prelude.{option_map}
 use Rattle.std.specs.List.{AllByRecursion, count_by, list_any, IsDistinct}
 use Rattle.std.proofs.lemmas.List.Elements.{All-nil, All-cons, All-contains, All-from_recursion}
-use Rattle.std.proofs.lemmas.List.Folds.{list_any_at}
 use Rattle.sl_num.specs.declared.comparing.Comparison.TheVariants.{Less}
 use Rattle.c_tree.specs.declared.tree.CArg.TheVariants.{Value}
 use Rattle.c_tree.specs.declared.tree.CBinary.TheVariants.{Add}
@@ -30,7 +29,8 @@ use Rattle.c_tree.specs.Scope.{Scope, scope_of, var_named, or_else, variable}
 use Rattle.c_tree.specs.Rules.{var_names, fun_names, NamesClash, BreaksSizes, IsDeclared, NamesRead, NamesVariable, BreaksOutside, BreaksInside, Breaks, is_word, type_of_name, typed, CanCount, recounts, some_are, strays, HasExpr, HasOtherType, HasWrongValue, ArgumentsMisfit, last_is, ends_function, AreAlike, KeepsRules}
 use Rattle.c_tree.specs.Rules as rules
 use Rattle.c_tree.proofs.Variants.{leaves_are, types_are, actions_are, ends_are, strays_are, recounts_are}
-use Rattle.c_tree.proofs.Lists.{names_differ, in_none, first_in, second_in, of_one, AllPlaces, at_place}
+use Rattle.c_tree.proofs.Names.{names_differ, none_of, no_clash as no_clash_of}
+use Rattle.c_tree.proofs.Lists.{in_none, first_in, second_in, of_one, AllPlaces, at_place}
 use Rattle.c_tree.proofs.Small.{word, proto_of, function_with, inline_with, start_with, signed, unsigned, named, give, bare_call, set, member_of}
 
 -- Typed functions -----------------------------------------------------------------------------------------------------
@@ -326,13 +326,12 @@ file = record {
 -- Names --------------------------------------------------------------------------------------------------------------
 
 -- a name that isn't reserved
-free : (name : List ℕ) → list_any (bytes_eq name) reserved_words ≡ false → bytes_eq name name ≡ true → ¬ Contains reserved_words name
-free name none same among = let some = list_any_at (bytes_eq name) reserved_words among.0 name among.1 (ap (bytes_eq name) among.2 ∙ same) in cc
+free : (name : List ℕ) → list_any (bytes_eq name) reserved_words ≡ false → ¬ Contains reserved_words name
+free name none = none_of reserved_words name none
 
 -- names that differ, of which none is reserved, don't clash
-no_clash : (names : List (List ℕ)) → IsDistinct bytes_eq names → AllByRecursion (λ name. ¬ Contains reserved_words name) names → ¬ NamesClash names
-no_clash names apart free (inl twice) = twice apart
-no_clash names apart free (inr taken) = All-contains (λ name. ¬ Contains reserved_words name) names taken.0 (All-from_recursion (λ name. ¬ Contains reserved_words name) names free) taken.1 taken.2
+no_clash : (words : List (List ℕ)) → IsDistinct bytes_eq words → AllByRecursion (λ name. ¬ Contains reserved_words name) words → ¬ NamesClash words
+no_clash words apart free = no_clash_of words apart (All-from_recursion (λ name. ¬ Contains reserved_words name) words free)
 
 -- no names don't clash
 none_clash : ¬ NamesClash []
@@ -347,22 +346,22 @@ unfolding IsDistinct
 globals_keep =
     no_clash (codes "g" ∷ codes "h" ∷ codes "i" ∷ codes "sl_main" ∷ codes "k" ∷ codes "e" ∷ [])
     ((refl, (refl, (refl, (refl, (refl, tt))))), ((refl, (refl, (refl, (refl, tt)))), ((refl, (refl, (refl, tt))), ((refl, (refl, tt)), ((refl, tt), (tt, tt))))))
-    (free (codes "g") refl refl, (free (codes "h") refl refl, (free (codes "i") refl refl, (free (codes "sl_main") refl refl, (free (codes "k") refl refl, (free (codes "e") refl refl, tt))))))
+    (free (codes "g") refl, (free (codes "h") refl, (free (codes "i") refl, (free (codes "sl_main") refl, (free (codes "k") refl, (free (codes "e") refl, tt))))))
 
 -- the name of the struct, those of its members, and those of the union's
 struct_keeps : ¬ NamesClash (codes "s" ∷ [])
 unfolding IsDistinct
-struct_keeps = no_clash (codes "s" ∷ []) (tt, tt) (free (codes "s") refl refl, tt)
+struct_keeps = no_clash (codes "s" ∷ []) (tt, tt) (free (codes "s") refl, tt)
 
 -- those of its members
 members_keep : ¬ NamesClash (codes "a" ∷ codes "u" ∷ [])
 unfolding IsDistinct
-members_keep = no_clash (codes "a" ∷ codes "u" ∷ []) ((refl, tt), (tt, tt)) (free (codes "a") refl refl, (free (codes "u") refl refl, tt))
+members_keep = no_clash (codes "a" ∷ codes "u" ∷ []) ((refl, tt), (tt, tt)) (free (codes "a") refl, (free (codes "u") refl, tt))
 
 -- those of the union's members
 union_keeps : ¬ NamesClash (codes "a" ∷ codes "b" ∷ [])
 unfolding IsDistinct
-union_keeps = no_clash (codes "a" ∷ codes "b" ∷ []) ((refl, tt), (tt, tt)) (free (codes "a") refl refl, (free (codes "b") refl refl, tt))
+union_keeps = no_clash (codes "a" ∷ codes "b" ∷ []) ((refl, tt), (tt, tt)) (free (codes "a") refl, (free (codes "b") refl, tt))
 
 -- the members of a struct have sizes that may be, and the names in them don't clash
 abbrev MemberKeeps : CMember → Type 0
@@ -432,14 +431,14 @@ name_keeps_rules scope name is = record {
 }
 
 -- a single local name doesn't clash
-one_keeps : (name : List ℕ) → list_any (bytes_eq name) reserved_words ≡ false → bytes_eq name name ≡ true → ¬ NamesClash (name ∷ [])
+one_keeps : (name : List ℕ) → list_any (bytes_eq name) reserved_words ≡ false → ¬ NamesClash (name ∷ [])
 unfolding IsDistinct
-one_keeps name none same = no_clash (name ∷ []) (tt, tt) (free name none same, tt)
+one_keeps name none = no_clash (name ∷ []) (tt, tt) (free name none, tt)
 
 -- a parameter and a variable don't
 low_names : ¬ NamesClash (codes "x" ∷ codes "n" ∷ [])
 unfolding IsDistinct
-low_names = no_clash (codes "x" ∷ codes "n" ∷ []) ((refl, tt), (tt, tt)) (free (codes "x") refl refl, (free (codes "n") refl refl, tt))
+low_names = no_clash (codes "x" ∷ codes "n" ∷ []) ((refl, tt), (tt, tt)) (free (codes "x") refl, (free (codes "n") refl, tt))
 
 -- each function keeps the rules
 low_keeps : FunctionKeeps file [] low
@@ -482,7 +481,7 @@ high_keeps = record {
 -- so does `sl_main`
 start_keeps : FunctionKeeps file (low ∷ high ∷ []) start
 start_keeps = record {
-  names = one_keeps (codes "a") refl refl;
+  names = one_keeps (codes "a") refl;
   does =
       Calls (Some (Name (codes "a"))) (codes "k") (Binary Add (signed 1) (signed 2) ∷ [])
       ∷ Tests (Compare Less (named (codes "a")) (signed 0))
@@ -539,7 +538,7 @@ start_keeps = record {
 -- so does the last function
 last_keeps : FunctionKeeps file (low ∷ high ∷ start ∷ []) last
 last_keeps = record {
-  names = one_keeps (codes "h") refl refl;
+  names = one_keeps (codes "h") refl;
   does = Assigns (Name (codes "g")) (named (codes "h")) ∷ Tests (unsigned 0) ∷ Halts 1 0 2 ∷ Returns (Some (named (codes "g"))) ∷ [];
   acts = simp actions_are;
   each = (
@@ -560,7 +559,7 @@ last_keeps = record {
 -- so does the function with the loop
 echo_keeps : FunctionKeeps file (low ∷ high ∷ start ∷ last ∷ []) echo
 echo_keeps = record {
-  names = one_keeps (codes "b") refl refl;
+  names = one_keeps (codes "b") refl;
   does = Loops ∷ Gets (Name (codes "b")) ∷ Tests (Compare Less (named (codes "b")) (signed 0)) ∷ Puts (named (codes "b")) ∷ [];
   acts = simp actions_are;
   each = (

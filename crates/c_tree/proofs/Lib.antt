@@ -4,6 +4,7 @@ pub mod Steady
 pub mod Equations
 pub mod Variants
 pub mod Running
+pub mod Names
 pub mod Lists
 pub mod Small
 pub mod Examples

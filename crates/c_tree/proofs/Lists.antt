@@ -1,11 +1,6 @@
--- What is short to say of names and of the elements of short lists.
-use Rattle.std.proofs.Common.{◌≡◌, ◌≢◌, ℕ, List, [], ◌∷◌, ◌++◌, true, false, refl, sym, subst, arith, Contains, bytes_eq}
-use Rattle.std.proofs.lemmas.Slice.Eq.{bytes_eq-Decides}
+-- What is short to say of the elements of short lists.
+use Rattle.std.proofs.Common.{◌≡◌, ◌≢◌, List, [], ◌∷◌, ◌++◌, refl, sym, subst, arith, Contains}
 use Rattle.std.proofs.lemmas.List.Elements.{All-nil, All-cons, All-contains}
-
--- names that differ aren't equal
-pub names_differ : (a b : List ℕ) → bytes_eq a b ≡ false → a ≢ b
-names_differ a b differ same = let equal : bytes_eq a b ≡ true = (bytes_eq-Decides a b).1 same in cc
 
 -- nothing is in the empty list
 pub in_none : {X : Type 0} (x : X) → ¬ Contains [] x

@@ -19,7 +19,8 @@ use Rattle.c_tree.specs.Bytes.{called}
 use Rattle.c_tree.specs.Scope.{Scope, scope_of}
 use Rattle.c_tree.specs.Rules.{var_names, typed, NamesClash, IsDeclared, CanCount, recounts, some_are, strays, BreaksOutside, BreaksInside, Breaks, AreAlike, IsStart}
 use Rattle.c_tree.proofs.Variants.{actions_are, leaves_are, types_are, ends_are, strays_are, recounts_are}
-use Rattle.c_tree.proofs.Lists.{names_differ, in_none, first_in, second_in, in_same, of_one}
+use Rattle.c_tree.proofs.Names.{names_differ}
+use Rattle.c_tree.proofs.Lists.{in_none, first_in, second_in, in_same, of_one}
 use Rattle.c_tree.proofs.Small.{proto_of, word, function_with, inline_with, start_with, signed, unsigned, named, give, bare_call, set, file_with, start_alone, member_of, struct_alone}
 
 -- What is broken where -----------------------------------------------------------------------------------------------

@@ -14,7 +14,8 @@ use Rattle.c_tree.specs.declared.tree.CStmt.{CStmt}
 use Rattle.c_tree.specs.declared.tree.CStmt.TheVariants.{Assign, Call, If, Loop, Count, Break, Return, Put, Get, Halt}
 use Rattle.c_tree.specs.Scope.{Scope}
 use Rattle.c_tree.specs.Memory.{Memory}
-use Rattle.c_tree.specs.Meaning.{Next, Broke, Returned, Callees, located, write_number, is_zero, binary, compared, negated, read_word, evaluate, arguments, after_round, rounds, gotten, put_value, store_result, meaning, block}
+use Rattle.sl_run.specs.Statements.{Next, Broke, Returned, after_round, gotten}
+use Rattle.c_tree.specs.Meaning.{Callees, located, write_number, is_zero, binary, compared, negated, read_word, evaluate, arguments, rounds, put_value, store_result, meaning, block}
 use Rattle.c_tree.proofs.Equations.{const_is, read_is, binary_is, compare_is, negate_is, assign_is, call_is, call_to_is, if_is, if_else_is, while_is, count_is, break_is, return_is, return_none_is, put_is, get_is, halt_is}
 
 module _ (scope : Scope) where

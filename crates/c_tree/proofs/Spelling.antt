@@ -1,12 +1,11 @@
 -- Which bytes are the text of some tokens, by examples.
 use Rattle.std.proofs.Common.{◌≡◌, ◌≢◌, ◌⊎◌, ℕ, ◌+◌, ◌≤◌, List, [], ◌∷◌, ◌++◌, Bool, true, false, Some, None, refl, sym, subst, ap, ◌∙◌, inl, inr, arith, append_assoc, map, All, Contains, codes, bytes_eq}
 use Rattle.std.specs.Prelude.{◌==◌, not, ◌&&◌, ◌||◌}
-use Rattle.std.specs.Bool.{Decides}
-use Rattle.std.specs.Char.{is_ascii_alphanumeric, is_ascii_digit}
+use Rattle.std.specs.Char.{is_ascii_digit}
 use Rattle.std.specs.Fmt.{digits}
 use Rattle.std.specs.List.{list_any, list_all}
 use Rattle.std.proofs.lemmas.Bool.{and_parts}
-use Rattle.std.proofs.lemmas.Bool.Decides.{Decides-eqb, Decides-or, Decides-by_and}
+use Rattle.std.proofs.lemmas.Bool.Decides.{Decides-eqb, Decides-by_and}
 use Rattle.std.proofs.lemmas.List.Elements.{All-nil, All-cons, All-head, All-contains, Contains-append_right}
 use Rattle.std.proofs.lemmas.List.Folds.{list_any_at, Any-from_list_any}
 use Rattle.std.proofs.lemmas.Slice.Eq.{bytes_eq-Decides}
@@ -18,13 +17,14 @@ use Rattle.c_tree.specs.declared.tree.CStmt.TheVariants.{Call, If}
 use Rattle.c_tree.specs.declared.tree.CExpr.{CExpr}
 use Rattle.c_tree.specs.declared.tree.CExpr.TheVariants.{Negate}
 use Rattle.c_tree.specs.declared.tree.CType.TheVariants.{Void}
-use Rattle.c_tree.specs.Words.{IsIdentifierByte, IsDigit, IsIdentifier, IsNumber, IsToken, IsName, marks, subset_words}
+use Rattle.c_tree.specs.Words.{IsIdentifierByte, IsDigit, IsIdentifier, IsNumber, IsToken, marks}
 use Rattle.c_tree.specs.Parts.{Constant, leaves, Tests, Calls, actions}
 use Rattle.c_tree.specs.Flat.{lexeme, lexemes, cflat}
 use Rattle.c_tree.specs.WellFormed.{IsLeaf, IsExpr, IsAction, IsStmt, IsFunction, IsWellFormed, stmt_depth}
 use Rattle.c_tree.specs.Text.{prelude, postlude, first_line, IsComment, IsBlank, line_feeds, IsLongest, Spelled, CText}
 use Rattle.c_tree.proofs.Variants.{leaves_are, actions_are, flat_expressions_are, flat_statements_are, expression_depths_are, statement_depths_are}
 use Rattle.c_tree.proofs.Forms.{constant_fits}
+use Rattle.c_tree.proofs.Names.{in_word, in_word_decides, is_word, word_is, name_is}
 use Rattle.c_tree.proofs.Lists.{first_in, not_empty}
 use Rattle.c_tree.proofs.Small.{signed, function_with}
 
@@ -70,29 +70,6 @@ pub ended_twice : ¬ IsComment (codes "/**/*/")
 ended_twice comment = comment.2 [] [] (inside_twice comment.0 (let same : codes "*/*/" ≡ comment.0 ++ codes "*/" = let whole = comment.1 in cc in same))
 
 -- Words --------------------------------------------------------------------------------------------------------------
-
--- whether a byte stands in words
-abbrev in_word : ℕ → Bool
-in_word byte = is_ascii_alphanumeric byte || byte == 95
-
--- the test says so
-in_word_decides : (byte : ℕ) → Decides (in_word byte) (IsIdentifierByte byte)
-in_word_decides byte = Decides-or (is_ascii_alphanumeric byte) (byte == 95) ((λ is. is), (λ is. is)) (Decides-eqb byte 95)
-
--- whether a spelling is an identifier
-abbrev is_word : List ℕ → Bool
-is_word [] = false
-is_word (byte ∷ bytes) = not (is_ascii_digit byte) && list_all in_word (byte ∷ bytes)
-
--- where the test passes, it is one
-word_is : (spelling : List ℕ) → is_word spelling ≡ true → IsIdentifier spelling
-word_is [] passes = cc
-word_is (byte ∷ bytes) passes =
-    let parts = and_parts (not (is_ascii_digit byte)) (list_all in_word (byte ∷ bytes)) passes in
-    record {
-      bytes = (Decides-by_and in_word IsIdentifierByte (list_all in_word) in_word_decides refl (λ _ _. refl) (byte ∷ bytes)).0 parts.1;
-      begins = λ digit. let same : false ≡ true = sym (ap not digit) ∙ parts.0 in cc;
-    }
 
 -- whether a spelling is a number
 abbrev is_number : List ℕ → Bool
@@ -316,13 +293,6 @@ tokens_of_written : cflat written_file ≡ record { spelling = codes "static"; l
 unfolding cflat digits
 tokens_of_written = simp (flat_statements_are, flat_expressions_are)
 
--- a word that has no meaning of its own is a name
-name_is : (name : List ℕ) → is_word name ≡ true → list_any (bytes_eq name) subset_words ≡ false → bytes_eq name name ≡ true → IsName name
-name_is name word none same = record {
-  identifier = word_is name word;
-  free = λ among. let some : list_any (bytes_eq name) subset_words ≡ true = list_any_at (bytes_eq name) subset_words among.0 name among.1 (ap (bytes_eq name) among.2 ∙ same) in cc;
-}
-
 -- the two arguments have numbers of 64 bits
 arguments_are : All IsExpr two_arguments
 arguments_are =
@@ -338,7 +308,7 @@ statement_is : IsStmt calling_if
 statement_is =
     subst (All IsAction) (sym its_actions)
     (All-cons IsAction (Tests (signed 1)) (Calls None (codes "f") two_arguments ∷ []) (constant_fits true 1 (omega arith))
-    (All-cons IsAction (Calls None (codes "f") two_arguments) [] (tt, name_is (codes "f") refl refl refl, arguments_are) (All-nil IsAction)))
+    (All-cons IsAction (Calls None (codes "f") two_arguments) [] (tt, name_is (codes "f") refl refl, arguments_are) (All-nil IsAction)))
   where
     -- its actions
     its_actions : actions calling_if ≡ Tests (signed 1) ∷ Calls None (codes "f") two_arguments ∷ []
@@ -355,7 +325,7 @@ written_is =
       functions =
           All-cons IsFunction written []
           (record {
-            head = record { name = name_is (codes "g") refl refl refl; result = inr refl; params = All-nil _ };
+            head = record { name = name_is (codes "g") refl refl; result = inr refl; params = All-nil _ };
             vars = All-nil _;
             body = All-cons IsStmt calling_if [] statement_is (All-nil IsStmt);
           })

@@ -3,10 +3,11 @@ use Rattle.std.proofs.Common.{ℕ, zero, suc, ◌+◌, ℤ, List, [], ◌∷◌,
 use Rattle.std.specs.Prelude.{true, pos, negsuc, neg_ℤ, nat_le, int_div, int_rem, reverse, slice_get, not, ◌&&◌}
 use Rattle.std.specs.Str.{bytes_eq}
 use Rattle.sl_num.specs.declared.comparing.Comparison.{Comparison}
-use Rattle.sl_num.specs.Comparing.{holds}
+use Rattle.sl_num.specs.Comparing.{holds, truth}
 use Rattle.sl_run.specs.Run.{Act, pure, ◌>>=◌, ◌>>◌, choose, put, get, round_then, calls}
 use Rattle.sl_run.specs.Laws.{Agrees, Steady, Respects}
 use Rattle.sl_run.proofs.Steady.{bind_agrees, pure_agrees, put_agrees, get_agrees, choose_agrees, round_then_agrees, loop_agrees, calls_steady}
+use Rattle.sl_run.proofs.Statements.{then_on_agrees, and_next_agrees, round_agrees}
 use Rattle.sl_run.proofs.Equations.{takes_steady, turn_within_by_takes}
 use Rattle.c_tree.specs.declared.tree.CFile.{CFile}
 use Rattle.c_tree.specs.declared.tree.CType.{CType}
@@ -25,7 +26,8 @@ use Rattle.c_tree.specs.declared.tree.CExpr.TheOpen as expr
 use Rattle.c_tree.specs.Bytes.{charge}
 use Rattle.c_tree.specs.Scope.{Scope, scope_of}
 use Rattle.c_tree.specs.Memory.{Pointer, Tree, Number, Memory, live, held}
-use Rattle.c_tree.specs.Meaning.{Flow, Next, Broke, Returned, Callees, stuck, with_some, place_of, located, number_in, read_number, write_number, is_zero, same, Word, exact, divides, is_int64, int64, uint64, int64_of, binary_at, binary, truth, compared, negated, place_is_signed, read_word, expr_step, evaluate, arguments, Meaning, then_on, after_round, rounds, gotten, put_value, store_result, call_to, returned, stmt_step, meaning, block, given, begin, leave, body, begin_inline, inline_callees, number_of, numbered_call, callees, functions, charge_of, enter, run_callees}
+use Rattle.sl_run.specs.Statements.{Next, Broke, Returned, then_on, after_round, gotten}
+use Rattle.c_tree.specs.Meaning.{Flow, Callees, stuck, with_some, place_of, located, number_in, read_number, write_number, is_zero, same, Word, exact, divides, is_int64, int64, uint64, int64_of, binary_at, binary, compared, negated, place_is_signed, read_word, expr_step, evaluate, arguments, Meaning, rounds, put_value, store_result, call_to, returned, stmt_step, meaning, block, given, begin, leave, body, begin_inline, inline_callees, number_of, numbered_call, callees, functions, charge_of, enter, run_callees}
 use Rattle.c_tree.proofs.Layers.{evaluate_layer, meaning_layer}
 
 -- what two ways of calling functions have in common
@@ -107,12 +109,6 @@ module _ (n : ℕ) where
       let rest : Word → Act Memory Word = λ x. right >>= (λ y. go x y) in
       bind_agrees n left left rest rest h (λ x. bind_agrees n right right (λ y. go x y) (λ y. go x y) k (λ y. l x y))
 
-  -- what comes after a statement
-  then_on_agrees : (go go' : Act Memory Flow) (flow : Flow) → Agrees n go go' → Agrees n (then_on go flow) (then_on go' flow)
-  then_on_agrees go go' Next h = h
-  then_on_agrees go go' Broke h = pure_agrees n Broke
-  then_on_agrees go go' (Returned value) h = pure_agrees n (Returned value)
-
   -- a number that is put
   put_value_agrees : (number : ℤ) → Agrees n (put_value number) (put_value number)
   put_value_agrees (pos number) =
@@ -125,17 +121,9 @@ module _ (n : ℕ) where
   store_result_agrees : (pointer : Pointer) (value : Option ℤ) → Agrees n (store_result pointer value) (store_result pointer value)
   store_result_agrees pointer value = with_some_agrees value (write_number pointer) (write_number pointer) (write_number_agrees pointer)
 
-  -- one part, and then nothing
-  and_next : {A : Type 0} (a b : Act Memory A) → Agrees n a b → Agrees n (a >> pure Next) (b >> pure Next)
-  and_next a b h = bind_agrees n a b (λ _. pure Next) (λ _. pure Next) h (λ _. pure_agrees n Next)
-
-  -- how a loop is left after a round
-  round_agrees : (body body' : Act Memory Flow) → Agrees n body body' → Agrees n (body >>= (λ flow. pure (after_round flow))) (body' >>= (λ flow. pure (after_round flow)))
-  round_agrees body body' h = bind_agrees n body body' (λ flow. pure (after_round flow)) (λ flow. pure (after_round flow)) h (λ flow. pure_agrees n (after_round flow))
-
   -- the rounds of a counted loop
   pub rounds_agree : (pointer : Pointer) (body body' : Act Memory Flow) → Agrees n body body' → (from count : ℕ) → Agrees n (rounds pointer body from count) (rounds pointer body' from count)
-  rounds_agree pointer body body' h from zero = and_next (write_number pointer (pos from)) (write_number pointer (pos from)) (write_number_agrees pointer (pos from))
+  rounds_agree pointer body body' h from zero = and_next_agrees n (write_number pointer (pos from)) (write_number pointer (pos from)) (write_number_agrees pointer (pos from))
   rounds_agree pointer body body' h from (suc count) =
       let rest : Act Memory Flow = rounds pointer body (suc from) count in
       let rest' : Act Memory Flow = rounds pointer body' (suc from) count in
@@ -223,11 +211,11 @@ module _ (n : ℕ) where
 
     -- a call
     call_to_agrees : (target : Option CPlace) (name : List ℕ) (args : List CArg) (call call' : Callees) → AgreeingCalls n call call' → Agrees n (call_to scope target name args call) (call_to scope target name args call')
-    call_to_agrees None name args call call' h = and_next (arguments scope args >>= call name) (arguments scope args >>= call' name) (called_agrees name args call call' h)
+    call_to_agrees None name args call call' h = and_next_agrees n (arguments scope args >>= call name) (arguments scope args >>= call' name) (called_agrees name args call call' h)
     call_to_agrees (Some place) name args call call' h =
         let stored : Pointer → Act Memory (Unit {0}) = λ pointer. arguments scope args >>= call name >>= store_result pointer in
         let stored' : Pointer → Act Memory (Unit {0}) = λ pointer. arguments scope args >>= call' name >>= store_result pointer in
-        and_next (located scope place >>= stored) (located scope place >>= stored')
+        and_next_agrees n (located scope place >>= stored) (located scope place >>= stored')
         (bind_agrees n (located scope place) (located scope place) stored stored' (located_agrees scope place)
         (λ pointer. bind_agrees n (arguments scope args >>= call name) (arguments scope args >>= call' name) (store_result pointer) (store_result pointer) (called_agrees name args call call' h) (store_result_agrees pointer)))
 
@@ -248,7 +236,7 @@ module _ (n : ℕ) where
     in_order_known [] call call' h = pure_agrees n Next
     in_order_known (m ∷ ms) call call' h =
         bind_agrees n (meaning scope m.0 call) (meaning scope m.0 call') (then_on (block scope (map only ms) call)) (then_on (block scope (map only ms) call')) (m.1 call call' h)
-        (λ flow. then_on_agrees (block scope (map only ms) call) (block scope (map only ms) call') flow (in_order_known ms call call' h))
+        (λ flow. then_on_agrees n (block scope (map only ms) call) (block scope (map only ms) call') flow (in_order_known ms call call' h))
 
     -- one of two blocks
     if_agrees : (test : CExpr) (chosen other chosen' other' : Act Memory Flow) → Agrees n chosen chosen' → Agrees n other other' → Agrees n (evaluate scope test >>= (λ x. choose (not (is_zero x.number)) chosen other)) (evaluate scope test >>= (λ x. choose (not (is_zero x.number)) chosen' other'))
@@ -268,7 +256,7 @@ module _ (n : ℕ) where
         layer : (y : CStmt-F Certain) → Calm (roll-CStmt (map-CStmt Certain CStmt only y))
         layer (stmt.Assign place e) =
             let stored : Act Memory (Unit {0}) = located scope place >>= (λ pointer. evaluate scope e >>= (λ x. write_number pointer x.number)) in
-            via (stmt.Assign place e) (λ call call' h. and_next stored stored (assign_agrees place e))
+            via (stmt.Assign place e) (λ call call' h. and_next_agrees n stored stored (assign_agrees place e))
         layer (stmt.Call target name args) = via (stmt.Call target name args) (call_to_agrees target name args)
         layer (stmt.If test chosen None) =
             via (stmt.If test (map only chosen) None)
@@ -282,7 +270,7 @@ module _ (n : ℕ) where
             let blocks : Meaning = block scope (map only body) in
             via (stmt.Loop (map only body))
             (λ call call' h.
-            loop_agrees n (blocks call >>= (λ flow. pure (after_round flow))) (blocks call' >>= (λ flow. pure (after_round flow))) (round_agrees (blocks call) (blocks call') (in_order_known body call call' h)))
+            loop_agrees n (blocks call >>= (λ flow. pure (after_round flow))) (blocks call' >>= (λ flow. pure (after_round flow))) (round_agrees n (blocks call) (blocks call') (in_order_known body call call' h)))
         layer (stmt.Count set tested count raised body) =
             via (stmt.Count set tested count raised (map only body))
             (λ call call' h. count_agrees set count (block scope (map only body) call) (block scope (map only body) call') (in_order_known body call call' h))
@@ -293,7 +281,7 @@ module _ (n : ℕ) where
             (λ call call' h. bind_agrees n (evaluate scope e) (evaluate scope e) (λ x. put_value x.number) (λ x. put_value x.number) (evaluate_agrees e) (λ x. put_value_agrees x.number))
         layer (stmt.Get place) =
             let stored : Act Memory (Unit {0}) = located scope place >>= (λ pointer. get >>= (λ byte. write_number pointer (gotten byte))) in
-            via (stmt.Get place) (λ call call' h. and_next stored stored (get_to_agrees place))
+            via (stmt.Get place) (λ call call' h. and_next_agrees n stored stored (get_to_agrees place))
         layer (stmt.Halt kind file line) = via (stmt.Halt kind file line) (λ call call' h t s le. (refl, le))
 
     -- statements in order
@@ -301,7 +289,7 @@ module _ (n : ℕ) where
     block_agrees [] call call' h = pure_agrees n Next
     block_agrees (s ∷ stmts) call call' h =
         bind_agrees n (meaning scope s call) (meaning scope s call') (then_on (block scope stmts call)) (then_on (block scope stmts call')) (meaning_agrees s call call' h)
-        (λ flow. then_on_agrees (block scope stmts call) (block scope stmts call') flow (block_agrees stmts call call' h))
+        (λ flow. then_on_agrees n (block scope stmts call) (block scope stmts call') flow (block_agrees stmts call call' h))
 
   module _ (file : CFile) where
     -- the body of a function

@@ -1,14 +1,15 @@
 -- What a C program does, as a run (ISO C11, as far as the subset goes). An undefined case ends the run with Stuck and the number
 -- of the function in whose frame, or above whose frame in an inline function, it is met. Functions are numbered from 0 in the
 -- order of the file.
-use Rattle.std.specs.Prelude.{ℕ, zero, suc, ◌+◌, ◌%◌, ◌^◌, ◌-◌, ℤ, pos, negsuc, ◌+ℤ◌, ◌-ℤ◌, ◌*ℤ◌, neg_ℤ, int_div, int_rem, int_le, nat_abs, ◌==◌, List, [], ◌∷◌, ◌++◌, Bool, true, false, not, ◌&&◌, Option, Some, None, option_map, map, length, replicate, reverse, slice_get, nat_le, codes}
+use Rattle.std.specs.Prelude.{ℕ, zero, suc, ◌+◌, ◌^◌, ◌-◌, ℤ, pos, negsuc, ◌+ℤ◌, ◌-ℤ◌, ◌*ℤ◌, neg_ℤ, int_div, int_rem, int_le, nat_abs, ◌==◌, List, [], ◌∷◌, ◌++◌, Bool, true, false, not, ◌&&◌, Option, Some, None, option_map, map, length, replicate, reverse, slice_get, nat_le, codes}
 use Rattle.std.specs.Int.{int_rem_euclid}
 use Rattle.std.specs.List.{position}
 use Rattle.std.specs.Str.{bytes_eq}
 use Rattle.sl_num.specs.declared.comparing.Comparison.{Comparison}
-use Rattle.sl_num.specs.Comparing.{holds}
+use Rattle.sl_num.specs.Comparing.{holds, truth}
 use Rattle.sl_run.specs.Run.{Stuck, Act, Over, Went, pure, over, ◌>>=◌, ◌>>◌, choose, put, get, round_then, loop, keep_within, turn_within, calls}
 use Rattle.sl_run.specs.Run as run
+use Rattle.sl_run.specs.Statements.{FlowOf, Next, Broke, Returned, in_order, after_round, gotten}
 use Rattle.sl_run.specs.Outcome.{Outcome, whole_run}
 use Rattle.c_tree.specs.declared.tree.CFile.{CFile}
 use Rattle.c_tree.specs.declared.tree.CVar.{CVar}
@@ -30,10 +31,8 @@ use Rattle.c_tree.specs.Scope.{Scope, scope_of, number_named, or_else, variable}
 use Rattle.c_tree.specs.Memory.{Globals, FrameAt, Pointer, Tree, Unwritten, Number, Memory, live, owner_of, with_frame, without_frame, held, with_held, below_last}
 
 -- how a statement is left: by the next one, by a `break`, or by a return
-pub data Flow : Type 0 where
-  Next : Flow
-  Broke : Flow
-  Returned : (value : Option ℤ) → Flow
+abbrev pub Flow : Type 0
+Flow = FlowOf (Option ℤ)
 
 -- what calls of functions by their names do with arguments, and give where they give something
 abbrev pub Callees : Type 0
@@ -133,11 +132,6 @@ binary_at signed operator a b =
 abbrev pub binary : CBinary → Word → Word → Act Memory Word
 binary operator left right = choose (same left.signed right.signed) (binary_at left.signed operator left.number right.number) stuck
 
--- 1 for true and 0 for false
-abbrev pub truth : Bool → ℤ
-truth true = pos 1
-truth false = pos 0
-
 -- a comparison of two numbers of one type
 abbrev pub compared : Comparison → Word → Word → Act Memory Word
 compared comparison left right = choose (same left.signed right.signed) (pure (record { signed = true; number = truth (holds comparison left.number right.number) })) stuck
@@ -185,26 +179,9 @@ arguments scope (Value e ∷ others) = evaluate scope e >>= (λ x. arguments sco
 abbrev pub Meaning : Type 0
 Meaning = Callees → Act Memory Flow
 
--- what comes after a statement that was left so
-abbrev pub then_on : Act Memory Flow → Flow → Act Memory Flow
-then_on go Next = go
-then_on go Broke = pure Broke
-then_on go (Returned value) = pure (Returned value)
-
--- statements in order, up to a `break` or a return
-abbrev pub in_order : List Meaning → Meaning
-in_order [] call = pure Next
-in_order (m ∷ ms) call = m call >>= then_on (in_order ms call)
-
 abbrev pub in_order_else : Option (List Meaning) → Meaning
 in_order_else None call = pure Next
 in_order_else (Some ms) call = in_order ms call
-
--- how a loop is left after a round of it that was left so, or nothing where it goes round again
-abbrev pub after_round : Flow → Option Flow
-after_round Next = None
-after_round Broke = Some Next
-after_round (Returned value) = Some (Returned value)
 
 -- The rounds of a counted loop from a count on, so many of them: the count is stored in the variable, and the body goes round once;
 -- after the last of them the count at which the test fails is stored. No round takes a turn. Nothing in the body stores in the
@@ -212,11 +189,6 @@ after_round (Returned value) = Some (Returned value)
 abbrev pub rounds : Pointer → Act Memory Flow → (from count : ℕ) → Act Memory Flow
 rounds pointer body from zero = write_number pointer (pos from) >> pure Next
 rounds pointer body from (suc count) = write_number pointer (pos from) >> (body >>= (λ flow. round_then (after_round flow) (rounds pointer body (suc from) count)))
-
--- what `sl_get` gives: the byte that was there, as an unsigned char (ISO C11, 7.21.7.1), or -1 at the end of the input
-abbrev pub gotten : Option ℕ → ℤ
-gotten None = negsuc 0
-gotten (Some byte) = pos (byte % 256)
 
 -- `sl_put` puts a number from 0 to 255 as a byte, and is undefined on every other
 abbrev pub put_value : ℤ → Act Memory Flow
@@ -237,7 +209,8 @@ abbrev pub returned : Scope → Option CExpr → Act Memory Flow
 returned scope None = pure (Returned None)
 returned scope (Some e) = evaluate scope e >>= (λ x. pure (Returned (Some x.number)))
 
--- a statement, given what its parts do
+-- A statement, given what its parts do. What `sl_get` gives is `gotten`: the byte that was there, as an unsigned char (ISO C11,
+-- 7.21.7.1), or -1 at the end of the input
 abbrev pub stmt_step : Scope → CStmt-F Meaning → Meaning
 stmt_step scope (stmt.Assign place e) call = located scope place >>= (λ pointer. evaluate scope e >>= (λ x. write_number pointer x.number)) >> pure Next
 stmt_step scope (stmt.Call target name args) call = call_to scope target name args call

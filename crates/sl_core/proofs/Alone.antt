@@ -4,10 +4,11 @@ use Rattle.std.specs.Prelude.{Result, Ok, Err, slice_get}
 use Rattle.sl_num.specs.declared.arithmetic.Halt.{Halt}
 use Rattle.sl_num.specs.declared.arithmetic.Op.{Op}
 use Rattle.sl_num.specs.Arithmetic.{applied}
-use Rattle.sl_num.specs.Comparing.{holds}
+use Rattle.sl_num.specs.Comparing.{holds, truth}
 use Rattle.sl_run.specs.Run.{Act, pure, ◌>>=◌, ◌>>◌, choose, put_all, get}
 use Rattle.sl_run.specs.Laws.{Alone}
 use Rattle.sl_run.proofs.Alone.{bind_alone, pure_alone, put_all_alone, get_alone, choose_alone, turn_alone, loop_alone, calls_alone}
+use Rattle.sl_run.proofs.Statements.{then_on_alone, and_next_alone, round_alone}
 use Rattle.sl_core.specs.declared.tree.Core.{Core}
 use Rattle.sl_core.specs.declared.tree.CoreType.{CoreType}
 use Rattle.sl_core.specs.declared.tree.CoreType.TheVariants.{Int}
@@ -18,7 +19,8 @@ use Rattle.sl_core.specs.declared.tree.CoreExpr.TheOpen as expr
 use Rattle.sl_core.specs.declared.tree.CoreStmt.{CoreStmt, CoreStmt-F, ind-CoreStmt, map-CoreStmt, roll-CoreStmt}
 use Rattle.sl_core.specs.declared.tree.CoreStmt.TheOpen as stmt
 use Rattle.sl_core.specs.Memory.{Value, Number, Bytes, Memory, held}
-use Rattle.sl_core.specs.Meaning.{stuck, with_some, with_number, root_of, read, store, number_or_halt, apply_in, truth, expr_step, evaluate, Flow, Next, Broke, Returned, after_round, gotten, Callees, Meaning, then_on, in_order, is_true, printed_form, store_result, stmt_step, meaning, begin, leave, given, body, functions, enter, run_callees}
+use Rattle.sl_run.specs.Statements.{Next, Broke, Returned, after_round, gotten, then_on, in_order}
+use Rattle.sl_core.specs.Meaning.{stuck, with_some, with_number, root_of, read, store, number_or_halt, apply_in, expr_step, evaluate, Flow, Callees, Meaning, is_true, printed_form, store_result, stmt_step, meaning, begin, leave, given, body, functions, enter, run_callees}
 use Rattle.sl_core.proofs.Layers.{evaluate_layer, meaning_layer}
 
 stuck_alone : {A : Type 0} → Alone (stuck {A = A})
@@ -84,12 +86,6 @@ module _ (core : Core) where
           via (expr.Compare comparison left.0 right.0 type)
           (two_alone (evaluate core left.0) (evaluate core right.0) (λ a b. pure (Number (truth (holds comparison a b)))) left.1 right.1 (λ a b. pure_alone (Number (truth (holds comparison a b)))))
 
--- what comes after a statement
-then_on_alone : (go : Act Memory Flow) (flow : Flow) → Alone go → Alone (then_on go flow)
-then_on_alone go Next h = h
-then_on_alone go Broke h = pure_alone Broke
-then_on_alone go (Returned value) h = pure_alone (Returned value)
-
 -- what a function gives
 given_alone : (flow : Flow) → Alone (given flow)
 given_alone Next = stuck_alone
@@ -100,10 +96,6 @@ given_alone (Returned value) = pure_alone value
 store_result_alone : (target : Option CorePath) (value : Value) → Alone (store_result target value)
 store_result_alone None value = pure_alone tt
 store_result_alone (Some path) value = λ earlier t s. refl
-
--- one part, and then nothing
-and_next : {A : Type 0} (a : Act Memory A) → Alone a → Alone (a >> pure Next)
-and_next a h = bind_alone a (λ _. pure Next) h (λ _. pure_alone Next)
 
 module _ (core : Core) where
   -- a statement is alone where calls are
@@ -131,7 +123,7 @@ module _ (core : Core) where
 
       layer : (y : CoreStmt-F Certain) → Calm (roll-CoreStmt (map-CoreStmt Certain CoreStmt only y))
       layer (stmt.Store path e) =
-          via (stmt.Store path e) (λ call h. and_next (evaluate core e >>= store path) (bind_alone (evaluate core e) (store path) (evaluate_alone core e) (λ value earlier t s. refl)))
+          via (stmt.Store path e) (λ call h. and_next_alone (evaluate core e >>= store path) (bind_alone (evaluate core e) (store path) (evaluate_alone core e) (λ value earlier t s. refl)))
       layer (stmt.If test chosen other) =
           via (stmt.If test (map only chosen) (map only other))
           (λ call h.
@@ -143,14 +135,14 @@ module _ (core : Core) where
           via (stmt.Loop (map only stmts))
           (λ call h.
           let round = in_order (map (meaning core) (map only stmts)) call in
-          loop_alone (round >>= (λ flow. pure (after_round flow))) (bind_alone round (λ flow. pure (after_round flow)) (in_order_known stmts call h) (λ flow. pure_alone (after_round flow))))
+          loop_alone (round >>= (λ flow. pure (after_round flow))) (round_alone round (in_order_known stmts call h)))
       layer stmt.Break = via stmt.Break (λ call h. pure_alone Broke)
       layer (stmt.Call target function) =
-          via (stmt.Call target function) (λ call h. and_next (call function >>= store_result target) (bind_alone (call function) (store_result target) (h function) (store_result_alone target)))
+          via (stmt.Call target function) (λ call h. and_next_alone (call function >>= store_result target) (bind_alone (call function) (store_result target) (h function) (store_result_alone target)))
       layer (stmt.Put e) =
-          via (stmt.Put e) (λ call h. and_next (evaluate core e >>= (λ value. put_all (printed_form value))) (bind_alone (evaluate core e) (λ value. put_all (printed_form value)) (evaluate_alone core e) (λ value. put_all_alone (printed_form value))))
+          via (stmt.Put e) (λ call h. and_next_alone (evaluate core e >>= (λ value. put_all (printed_form value))) (bind_alone (evaluate core e) (λ value. put_all (printed_form value)) (evaluate_alone core e) (λ value. put_all_alone (printed_form value))))
       layer (stmt.Get path) =
-          via (stmt.Get path) (λ call h. and_next (get >>= (λ byte. store path (Number (gotten byte)))) (bind_alone get (λ byte. store path (Number (gotten byte))) get_alone (λ byte earlier t s. refl)))
+          via (stmt.Get path) (λ call h. and_next_alone (get >>= (λ byte. store path (Number (gotten byte)))) (bind_alone get (λ byte. store path (Number (gotten byte))) get_alone (λ byte earlier t s. refl)))
       layer (stmt.Halt kind file line) = via (stmt.Halt kind file line) (λ call h earlier t s. refl)
       layer (stmt.Return e) = via (stmt.Return e) (λ call h. bind_alone (evaluate core e) (λ value. pure (Returned value)) (evaluate_alone core e) (λ value. pure_alone (Returned value)))
 

@@ -3,7 +3,7 @@ use Rattle.std.proofs.Common.{◌≡◌, ℕ, ℤ, List, Option, sym, ap, ◌∙
 use Rattle.std.specs.Prelude.{slice_get}
 use Rattle.sl_num.specs.declared.arithmetic.Op.{Op}
 use Rattle.sl_num.specs.declared.comparing.Comparison.{Comparison}
-use Rattle.sl_num.specs.Comparing.{holds}
+use Rattle.sl_num.specs.Comparing.{holds, truth}
 use Rattle.sl_run.specs.Run.{Trace, Went, Over, pure, over, ◌>>=◌, ◌>>◌, choose, put_all, get, loop}
 use Rattle.sl_run.specs.Run as run
 use Rattle.sl_core.specs.declared.tree.Core.{Core}
@@ -15,7 +15,8 @@ use Rattle.sl_core.specs.declared.tree.CoreStmt.{CoreStmt}
 use Rattle.sl_core.specs.declared.tree.CoreStmt.TheOpen as stmt_layer
 use Rattle.sl_core.specs.declared.tree.CoreStmt.TheVariants as stmt
 use Rattle.sl_core.specs.Memory.{Number, Bytes, Memory}
-use Rattle.sl_core.specs.Meaning.{with_some, with_number, read, store, apply_in, truth, evaluate, Next, Broke, Returned, after_round, gotten, Callees, in_order, is_true, printed_form, store_result, meaning}
+use Rattle.sl_run.specs.Statements.{Next, Broke, Returned, after_round, gotten, in_order}
+use Rattle.sl_core.specs.Meaning.{with_some, with_number, read, store, apply_in, evaluate, Callees, is_true, printed_form, store_result, meaning}
 use Rattle.sl_core.proofs.Layers.{evaluate_layer, meaning_layer}
 
 module _ (core : Core) where

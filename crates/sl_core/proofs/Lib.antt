@@ -3,3 +3,4 @@ pub mod Equations
 pub mod Alone
 pub mod Steady
 pub mod Examples
+pub mod Slots

@@ -4,10 +4,11 @@ use Rattle.std.specs.Prelude.{Result, Ok, Err, slice_get}
 use Rattle.sl_num.specs.declared.arithmetic.Halt.{Halt}
 use Rattle.sl_num.specs.declared.arithmetic.Op.{Op}
 use Rattle.sl_num.specs.Arithmetic.{applied}
-use Rattle.sl_num.specs.Comparing.{holds}
+use Rattle.sl_num.specs.Comparing.{holds, truth}
 use Rattle.sl_run.specs.Run.{Act, pure, ◌>>=◌, ◌>>◌, choose, put_all, get}
 use Rattle.sl_run.specs.Laws.{Agrees, Respects}
 use Rattle.sl_run.proofs.Steady.{bind_agrees, pure_agrees, put_all_agrees, get_agrees, choose_agrees, loop_agrees}
+use Rattle.sl_run.proofs.Statements.{then_on_agrees, and_next_agrees, round_agrees}
 use Rattle.sl_core.specs.declared.tree.Core.{Core}
 use Rattle.sl_core.specs.declared.tree.CoreType.{CoreType}
 use Rattle.sl_core.specs.declared.tree.CoreType.TheVariants.{Int}
@@ -18,7 +19,8 @@ use Rattle.sl_core.specs.declared.tree.CoreExpr.TheOpen as expr
 use Rattle.sl_core.specs.declared.tree.CoreStmt.{CoreStmt, CoreStmt-F, ind-CoreStmt, map-CoreStmt, roll-CoreStmt}
 use Rattle.sl_core.specs.declared.tree.CoreStmt.TheOpen as stmt
 use Rattle.sl_core.specs.Memory.{Value, Number, Bytes, Memory, held}
-use Rattle.sl_core.specs.Meaning.{stuck, with_some, with_number, root_of, read, store, number_or_halt, apply_in, truth, expr_step, evaluate, Flow, Next, Broke, Returned, after_round, gotten, Callees, Meaning, then_on, in_order, is_true, printed_form, store_result, stmt_step, meaning, begin, leave, given, body, functions}
+use Rattle.sl_run.specs.Statements.{Next, Broke, Returned, after_round, gotten, then_on, in_order}
+use Rattle.sl_core.specs.Meaning.{stuck, with_some, with_number, root_of, read, store, number_or_halt, apply_in, expr_step, evaluate, Flow, Callees, Meaning, is_true, printed_form, store_result, stmt_step, meaning, begin, leave, given, body, functions}
 use Rattle.sl_core.proofs.Layers.{evaluate_layer, meaning_layer}
 
 module _ (n : ℕ) where
@@ -53,12 +55,6 @@ module _ (n : ℕ) where
   two_agree left right go h k l =
       bind_agrees n left left _ _ h (λ x. bind_agrees n right right _ _ k (λ y. with_number_agrees x (λ a. with_number y (λ b. go a b)) (λ a. with_number y (λ b. go a b)) (λ a. with_number_agrees y (λ b. go a b) (λ b. go a b) (l a))))
 
-  -- what comes after a statement
-  then_on_agrees : (go go' : Act Memory Flow) (flow : Flow) → Agrees n go go' → Agrees n (then_on go flow) (then_on go' flow)
-  then_on_agrees go go' Next h = h
-  then_on_agrees go go' Broke h = pure_agrees n Broke
-  then_on_agrees go go' (Returned value) h = pure_agrees n (Returned value)
-
   -- what a function gives
   given_agrees : (flow : Flow) → Agrees n (given flow) (given flow)
   given_agrees Next = stuck_agrees
@@ -69,10 +65,6 @@ module _ (n : ℕ) where
   store_result_agrees : (target : Option CorePath) (value : Value) → Agrees n (store_result target value) (store_result target value)
   store_result_agrees None value = pure_agrees n tt
   store_result_agrees (Some path) value = λ t s le. (refl, le)
-
-  -- one part, and then nothing
-  and_next : {A : Type 0} (a b : Act Memory A) → Agrees n a b → Agrees n (a >> pure Next) (b >> pure Next)
-  and_next a b h = bind_agrees n a b (λ _. pure Next) (λ _. pure Next) h (λ _. pure_agrees n Next)
 
   module _ (core : Core) where
     abbrev Same : CoreExpr → Type 0
@@ -120,7 +112,7 @@ module _ (n : ℕ) where
     in_order_known [] call call' h = pure_agrees n Next
     in_order_known (m ∷ ms) call call' h =
         bind_agrees n (meaning core m.0 call) (meaning core m.0 call') (then_on (in_order (map (meaning core) (map only ms)) call)) (then_on (in_order (map (meaning core) (map only ms)) call')) (m.1 call call' h)
-        (λ flow. then_on_agrees (in_order (map (meaning core) (map only ms)) call) (in_order (map (meaning core) (map only ms)) call') flow (in_order_known ms call call' h))
+        (λ flow. then_on_agrees n (in_order (map (meaning core) (map only ms)) call) (in_order (map (meaning core) (map only ms)) call') flow (in_order_known ms call call' h))
 
     -- a statement
     pub meaning_agrees : (s : CoreStmt) (call call' : Callees) → Alike call call' → Agrees n (meaning core s call) (meaning core s call')
@@ -132,7 +124,7 @@ module _ (n : ℕ) where
         layer : (y : CoreStmt-F Certain) → Calm (roll-CoreStmt (map-CoreStmt Certain CoreStmt only y))
         layer (stmt.Store path e) =
             via (stmt.Store path e)
-            (λ call call' h. and_next (evaluate core e >>= store path) (evaluate core e >>= store path) (bind_agrees n (evaluate core e) (evaluate core e) (store path) (store path) (evaluate_agrees e) (λ value t s le. (refl, le))))
+            (λ call call' h. and_next_agrees n (evaluate core e >>= store path) (evaluate core e >>= store path) (bind_agrees n (evaluate core e) (evaluate core e) (store path) (store path) (evaluate_agrees e) (λ value t s le. (refl, le))))
         layer (stmt.If test chosen other) =
             via (stmt.If test (map only chosen) (map only other))
             (λ call call' h.
@@ -148,18 +140,18 @@ module _ (n : ℕ) where
             let round = in_order (map (meaning core) (map only stmts)) call in
             let round' = in_order (map (meaning core) (map only stmts)) call' in
             loop_agrees n (round >>= (λ flow. pure (after_round flow))) (round' >>= (λ flow. pure (after_round flow)))
-            (bind_agrees n round round' (λ flow. pure (after_round flow)) (λ flow. pure (after_round flow)) (in_order_known stmts call call' h) (λ flow. pure_agrees n (after_round flow))))
+            (round_agrees n round round' (in_order_known stmts call call' h)))
         layer stmt.Break = via stmt.Break (λ call call' h. pure_agrees n Broke)
         layer (stmt.Call target function) =
             via (stmt.Call target function)
-            (λ call call' h. and_next (call function >>= store_result target) (call' function >>= store_result target) (bind_agrees n (call function) (call' function) (store_result target) (store_result target) (h function) (store_result_agrees target)))
+            (λ call call' h. and_next_agrees n (call function >>= store_result target) (call' function >>= store_result target) (bind_agrees n (call function) (call' function) (store_result target) (store_result target) (h function) (store_result_agrees target)))
         layer (stmt.Put e) =
             via (stmt.Put e)
-            (λ call call' h. and_next (evaluate core e >>= (λ value. put_all (printed_form value))) (evaluate core e >>= (λ value. put_all (printed_form value)))
+            (λ call call' h. and_next_agrees n (evaluate core e >>= (λ value. put_all (printed_form value))) (evaluate core e >>= (λ value. put_all (printed_form value)))
             (bind_agrees n (evaluate core e) (evaluate core e) (λ value. put_all (printed_form value)) (λ value. put_all (printed_form value)) (evaluate_agrees e) (λ value. put_all_agrees n (printed_form value))))
         layer (stmt.Get path) =
             via (stmt.Get path)
-            (λ call call' h. and_next (get >>= (λ byte. store path (Number (gotten byte)))) (get >>= (λ byte. store path (Number (gotten byte))))
+            (λ call call' h. and_next_agrees n (get >>= (λ byte. store path (Number (gotten byte)))) (get >>= (λ byte. store path (Number (gotten byte))))
             (bind_agrees n get get (λ byte. store path (Number (gotten byte))) (λ byte. store path (Number (gotten byte))) (get_agrees n) (λ byte t s le. (refl, le))))
         layer (stmt.Halt kind file line) = via (stmt.Halt kind file line) (λ call call' h t s le. (refl, le))
         layer (stmt.Return e) =
@@ -167,11 +159,11 @@ module _ (n : ℕ) where
             (λ call call' h. bind_agrees n (evaluate core e) (evaluate core e) (λ value. pure (Returned value)) (λ value. pure (Returned value)) (evaluate_agrees e) (λ value. pure_agrees n (Returned value)))
 
     -- statements in order
-    in_order_agrees : (stmts : List CoreStmt) (call call' : Callees) → Alike call call' → Agrees n (in_order (map (meaning core) stmts) call) (in_order (map (meaning core) stmts) call')
+    pub in_order_agrees : (stmts : List CoreStmt) (call call' : Callees) → Alike call call' → Agrees n (in_order (map (meaning core) stmts) call) (in_order (map (meaning core) stmts) call')
     in_order_agrees [] call call' h = pure_agrees n Next
     in_order_agrees (s ∷ stmts) call call' h =
         bind_agrees n (meaning core s call) (meaning core s call') (then_on (in_order (map (meaning core) stmts) call)) (then_on (in_order (map (meaning core) stmts) call')) (meaning_agrees s call call' h)
-        (λ flow. then_on_agrees (in_order (map (meaning core) stmts) call) (in_order (map (meaning core) stmts) call') flow (in_order_agrees stmts call call' h))
+        (λ flow. then_on_agrees n (in_order (map (meaning core) stmts) call) (in_order (map (meaning core) stmts) call') flow (in_order_agrees stmts call call' h))
 
     -- a function
     body_agrees : (number : ℕ) (function : CoreFun) (call call' : Callees) → Alike call call' → Agrees n (body core number function call) (body core number function call')

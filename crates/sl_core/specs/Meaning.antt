@@ -3,15 +3,16 @@
 -- without a result or by a `Break` outside loops), the run ends with Stuck and the number of the function; a sound core never
 -- does (Sound.antt). A value that is stored in a variable that isn't there is dropped, and the types of numbers, places and
 -- comparisons aren't looked at: a sound core has all variables and types that it names.
-use Rattle.std.specs.Prelude.{ℕ, ◌%◌, ℤ, pos, negsuc, List, [], ◌∷◌, Bool, true, false, not, ◌==◌, nat_abs, Option, None, Some, Result, Ok, Err, length, map, replicate, slice_get}
+use Rattle.std.specs.Prelude.{ℕ, ℤ, List, [], Bool, not, ◌==◌, nat_abs, Option, None, Some, Result, Ok, Err, length, map, replicate, slice_get}
 use Rattle.std.specs.Fmt.{signed_decimal}
 use Rattle.sl_num.specs.declared.arithmetic.Op.{Op}
 use Rattle.sl_num.specs.declared.arithmetic.Halt.{Halt}
 use Rattle.sl_num.specs.declared.arithmetic.Halt.TheVariants.{Range, Zero}
 use Rattle.sl_num.specs.Arithmetic.{applied}
-use Rattle.sl_num.specs.Comparing.{holds}
+use Rattle.sl_num.specs.Comparing.{holds, truth}
 use Rattle.sl_run.specs.Run.{Stuck, Act, Over, Went, pure, over, ◌>>=◌, ◌>>◌, choose, put_all, get, turn, loop, calls}
 use Rattle.sl_run.specs.Run as run
+use Rattle.sl_run.specs.Statements.{FlowOf, Next, Broke, Returned, in_order, after_round, gotten}
 use Rattle.sl_run.specs.Outcome.{Outcome, whole_run}
 use Rattle.sl_core.specs.declared.tree.Core.{Core}
 use Rattle.sl_core.specs.declared.tree.CoreType.{CoreType}
@@ -70,11 +71,6 @@ number_or_halt file line (Err halt) = over (run.Halt (halt_number halt) file lin
 abbrev pub apply_in : CoreType → Op → (file line : ℕ) → ℤ → ℤ → Act Memory Value
 apply_in (Int kind) op file line a b = number_or_halt file line (applied kind op a b)
 
--- 1 for true and 0 for false
-abbrev pub truth : Bool → ℤ
-truth true = pos 1
-truth false = pos 0
-
 -- an expression, given what its parts give
 abbrev pub expr_step : Core → CoreExpr-F (Act Memory Value) → Act Memory Value
 expr_step core (expr.Number number kind) = pure (Number number)
@@ -92,10 +88,8 @@ evaluate core e = fold-CoreExpr (Act Memory Value) (expr_step core) e
 -- Statements ----------------------------------------------------------------------------------------------------------
 
 -- how a statement is left: by the next one, by a `Break`, or by a return
-pub data Flow : Type 0 where
-  Next : Flow
-  Broke : Flow
-  Returned : (value : Value) → Flow
+abbrev pub Flow : Type 0
+Flow = FlowOf Value
 
 -- what calls of functions by their numbers do, and give
 abbrev pub Callees : Type 0
@@ -104,29 +98,6 @@ Callees = ℕ → Act Memory Value
 -- what a statement does, given what calls do
 abbrev pub Meaning : Type 0
 Meaning = Callees → Act Memory Flow
-
--- what comes after a statement that was left so
-abbrev pub then_on : Act Memory Flow → Flow → Act Memory Flow
-then_on go Next = go
-then_on go Broke = pure Broke
-then_on go (Returned value) = pure (Returned value)
-
--- statements in order, up to a `Break` or a return
-abbrev pub in_order : List Meaning → Meaning
-in_order [] call = pure Next
-in_order (m ∷ ms) call = m call >>= then_on (in_order ms call)
-
--- how a loop is left after a round of it that was left so, or nothing where it goes round again
-abbrev pub after_round : Flow → Option Flow
-after_round Next = None
-after_round Broke = Some Next
-after_round (Returned value) = Some (Returned value)
-
--- What there is of the input, as a number: the byte, or -1 at the end. An input is a list of bytes; of a number in it that is none,
--- it is the remainder by 256, so that on every list what there is is a byte
-abbrev pub gotten : Option ℕ → ℤ
-gotten None = negsuc 0
-gotten (Some byte) = pos (byte % 256)
 
 -- a number is true where it isn't 0
 abbrev pub is_true : ℤ → Bool

@@ -1,7 +1,6 @@
 pub mod Injective
 pub mod Distinct
 pub mod Names
-pub mod Layers
 pub mod Tests
 pub mod Scopes
 pub mod Inside

@@ -8,7 +8,7 @@ use Rattle.sl_core.specs.Memory as core
 use Rattle.sl_plain.specs.Plain.{Declared}
 use Rattle.sl_plain.specs.Means.{Variables}
 use Rattle.sl_plain.proofs.Held.{memory_of, Ready, Extends}
-use Rattle.sl_plain.proofs.Slots.{SameBelow, same_below, then_below}
+use Rattle.sl_core.proofs.Slots.{SameBelow, same_below, then_below}
 use Rattle.sl_plain.proofs.Values.{IsFine}
 
 -- values of which nothing is said

@@ -1,77 +1,62 @@
 -- Kinds, fit, ranges and depth of the expressions and statements of a core, one variant at a time.
-use Rattle.std.proofs.Common.{◌≡◌, ℕ, ◌+◌, ℤ, List, Bool, true, false, ◌&&◌, ◌||◌, nat_lt, max, map, is_some, Option, Some, None, option_and_then, if◌then◌else◌, sym, ap, ◌∙◌}
+use Rattle.std.proofs.Common.{◌≡◌, ℕ, ◌+◌, ℤ, List, true, false, ◌&&◌, ◌||◌, nat_lt, max, map, is_some, Option, Some, None, option_and_then, if◌then◌else◌, sym, ap, ◌∙◌}
 use Rattle.std.specs.List.{list_all, list_any}
 use Rattle.sl_num.specs.declared.arithmetic.Op.{Op}
 use Rattle.sl_num.specs.declared.comparing.Comparison.{Comparison}
 use Rattle.sl_core.specs.declared.tree.Core.{Core}
 use Rattle.sl_core.specs.declared.tree.CoreFun.{CoreFun}
 use Rattle.sl_core.specs.declared.tree.CorePath.{CorePath}
-use Rattle.sl_core.specs.declared.tree.CoreExpr.{CoreExpr, CoreExpr-F, fold-roll-CoreExpr, map-CoreExpr, roll-CoreExpr}
+use Rattle.sl_core.specs.declared.tree.CoreExpr.{CoreExpr}
 use Rattle.sl_core.specs.declared.tree.CoreExpr.TheOpen as expr_layer
 use Rattle.sl_core.specs.declared.tree.CoreExpr.TheVariants as expr
-use Rattle.sl_core.specs.declared.tree.CoreStmt.{CoreStmt, CoreStmt-F, fold-roll-CoreStmt, map-CoreStmt, roll-CoreStmt}
+use Rattle.sl_core.specs.declared.tree.CoreStmt.{CoreStmt}
 use Rattle.sl_core.specs.declared.tree.CoreStmt.TheOpen as stmt_layer
 use Rattle.sl_core.specs.declared.tree.CoreStmt.TheVariants as stmt
-use Rattle.sl_core.specs.Sound.{Kind, kind_step, kind_of, fits_step, fits, expr_depth_step, expr_depth, stmt_depth_step, stmt_depth, greatest, type_of_place, is_number_of, is_number, call_fits, holds_bytes, strays_step, strays, expr_range_step, expr_in_range, stmt_range_step, stmt_in_range, is_source_place}
+use Rattle.sl_core.specs.Sound.{kind_step, kind_of, fits, expr_depth, stmt_depth, greatest, type_of_place, is_number_of, is_number, call_fits, holds_bytes, strays, expr_in_range, stmt_in_range, is_source_place}
+use Rattle.sl_core.proofs.Layers.{kind_layer, fits_layer, expr_depth_layer, stmt_depth_layer, expr_range_layer, stmt_range_layer, strays_layer}
 
 module _ (core : Core) (function : CoreFun) where
-  pub kind_layer : (x : CoreExpr-F CoreExpr) → kind_of core function (roll-CoreExpr x) ≡ kind_step core function (map-CoreExpr CoreExpr (Option Kind) (kind_of core function) x)
-  unfolding kind_of
-  kind_layer x = fold-roll-CoreExpr (Option Kind) (kind_step core function) x
-
   pub kind_of_number : (number : ℤ) (type : ℕ) → kind_of core function (expr.Number number type) ≡ kind_step core function (expr_layer.Number number type)
-  kind_of_number number type = ap (kind_of core function) (sym (expr.rolls-Number number type)) ∙ kind_layer (expr_layer.Number number type)
+  kind_of_number number type = ap (kind_of core function) (sym (expr.rolls-Number number type)) ∙ kind_layer core function (expr_layer.Number number type)
 
   pub kind_of_text : (bytes : List ℕ) → kind_of core function (expr.TextOf bytes) ≡ kind_step core function (expr_layer.TextOf bytes)
-  kind_of_text bytes = ap (kind_of core function) (sym (expr.rolls-TextOf bytes)) ∙ kind_layer (expr_layer.TextOf bytes)
+  kind_of_text bytes = ap (kind_of core function) (sym (expr.rolls-TextOf bytes)) ∙ kind_layer core function (expr_layer.TextOf bytes)
 
   pub kind_of_path : (path : CorePath) (type : ℕ) → kind_of core function (expr.Path path type) ≡ kind_step core function (expr_layer.Path path type)
-  kind_of_path path type = ap (kind_of core function) (sym (expr.rolls-Path path type)) ∙ kind_layer (expr_layer.Path path type)
+  kind_of_path path type = ap (kind_of core function) (sym (expr.rolls-Path path type)) ∙ kind_layer core function (expr_layer.Path path type)
 
   pub kind_of_apply : (op : Op) (left right : CoreExpr) (type file line : ℕ) → kind_of core function (expr.Apply op left right type file line) ≡ kind_step core function (expr_layer.Apply op (kind_of core function left) (kind_of core function right) type file line)
-  kind_of_apply op left right type file line = ap (kind_of core function) (sym (expr.rolls-Apply op left right type file line)) ∙ kind_layer (expr_layer.Apply op left right type file line)
+  kind_of_apply op left right type file line = ap (kind_of core function) (sym (expr.rolls-Apply op left right type file line)) ∙ kind_layer core function (expr_layer.Apply op left right type file line)
 
   pub kind_of_compare : (by : Comparison) (left right : CoreExpr) (type : ℕ) → kind_of core function (expr.Compare by left right type) ≡ kind_step core function (expr_layer.Compare by (kind_of core function left) (kind_of core function right) type)
-  kind_of_compare by left right type = ap (kind_of core function) (sym (expr.rolls-Compare by left right type)) ∙ kind_layer (expr_layer.Compare by left right type)
-
-  pub fits_layer : (x : CoreStmt-F CoreStmt) → fits core function (roll-CoreStmt x) ≡ fits_step core function (map-CoreStmt CoreStmt Bool (fits core function) x)
-  unfolding fits
-  fits_layer x = fold-roll-CoreStmt Bool (fits_step core function) x
+  kind_of_compare by left right type = ap (kind_of core function) (sym (expr.rolls-Compare by left right type)) ∙ kind_layer core function (expr_layer.Compare by left right type)
 
   pub store_fits : (path : CorePath) (e : CoreExpr) → fits core function (stmt.Store path e) ≡ is_some (option_and_then (λ type. if is_number_of type (kind_of core function e) then Some type else None) (type_of_place function path))
-  store_fits path e = ap (fits core function) (sym (stmt.rolls-Store path e)) ∙ fits_layer (stmt_layer.Store path e)
+  store_fits path e = ap (fits core function) (sym (stmt.rolls-Store path e)) ∙ fits_layer core function (stmt_layer.Store path e)
 
   pub if_fits : (test : CoreExpr) (chosen other : List CoreStmt) → fits core function (stmt.If test chosen other) ≡ (is_number (kind_of core function test) && list_all (λ so. so) (map (fits core function) chosen) && list_all (λ so. so) (map (fits core function) other))
-  if_fits test chosen other = ap (fits core function) (sym (stmt.rolls-If test chosen other)) ∙ fits_layer (stmt_layer.If test chosen other)
+  if_fits test chosen other = ap (fits core function) (sym (stmt.rolls-If test chosen other)) ∙ fits_layer core function (stmt_layer.If test chosen other)
 
   pub loop_fits : (stmts : List CoreStmt) → fits core function (stmt.Loop stmts) ≡ list_all (λ so. so) (map (fits core function) stmts)
-  loop_fits stmts = ap (fits core function) (sym (stmt.rolls-Loop stmts)) ∙ fits_layer (stmt_layer.Loop stmts)
+  loop_fits stmts = ap (fits core function) (sym (stmt.rolls-Loop stmts)) ∙ fits_layer core function (stmt_layer.Loop stmts)
 
   pub break_fits : fits core function stmt.Break ≡ true
-  break_fits = ap (fits core function) (sym stmt.rolls-Break) ∙ fits_layer stmt_layer.Break
+  break_fits = ap (fits core function) (sym stmt.rolls-Break) ∙ fits_layer core function stmt_layer.Break
 
   pub get_fits : (path : CorePath) → fits core function (stmt.Get path) ≡ holds_bytes core function path
-  get_fits path = ap (fits core function) (sym (stmt.rolls-Get path)) ∙ fits_layer (stmt_layer.Get path)
+  get_fits path = ap (fits core function) (sym (stmt.rolls-Get path)) ∙ fits_layer core function (stmt_layer.Get path)
 
   pub call_fits_is : (target : Option CorePath) (number : ℕ) → fits core function (stmt.Call target number) ≡ call_fits core function target number
-  call_fits_is target number = ap (fits core function) (sym (stmt.rolls-Call target number)) ∙ fits_layer (stmt_layer.Call target number)
+  call_fits_is target number = ap (fits core function) (sym (stmt.rolls-Call target number)) ∙ fits_layer core function (stmt_layer.Call target number)
 
   pub put_fits : (e : CoreExpr) → fits core function (stmt.Put e) ≡ is_some (kind_of core function e)
-  put_fits e = ap (fits core function) (sym (stmt.rolls-Put e)) ∙ fits_layer (stmt_layer.Put e)
+  put_fits e = ap (fits core function) (sym (stmt.rolls-Put e)) ∙ fits_layer core function (stmt_layer.Put e)
 
   pub halt_fits : (kind file line : ℕ) → fits core function (stmt.Halt kind file line) ≡ true
-  halt_fits kind file line = ap (fits core function) (sym (stmt.rolls-Halt kind file line)) ∙ fits_layer (stmt_layer.Halt kind file line)
+  halt_fits kind file line = ap (fits core function) (sym (stmt.rolls-Halt kind file line)) ∙ fits_layer core function (stmt_layer.Halt kind file line)
 
   pub return_fits : (e : CoreExpr) → fits core function (stmt.Return e) ≡ is_number_of function.result (kind_of core function e)
-  return_fits e = ap (fits core function) (sym (stmt.rolls-Return e)) ∙ fits_layer (stmt_layer.Return e)
-
-pub expr_depth_layer : (x : CoreExpr-F CoreExpr) → expr_depth (roll-CoreExpr x) ≡ expr_depth_step (map-CoreExpr CoreExpr ℕ expr_depth x)
-unfolding expr_depth
-expr_depth_layer x = fold-roll-CoreExpr ℕ expr_depth_step x
-
-pub stmt_depth_layer : (x : CoreStmt-F CoreStmt) → stmt_depth (roll-CoreStmt x) ≡ stmt_depth_step (map-CoreStmt CoreStmt ℕ stmt_depth x)
-unfolding stmt_depth
-stmt_depth_layer x = fold-roll-CoreStmt ℕ stmt_depth_step x
+  return_fits e = ap (fits core function) (sym (stmt.rolls-Return e)) ∙ fits_layer core function (stmt_layer.Return e)
 
 pub number_depth : (number : ℤ) (type : ℕ) → expr_depth (expr.Number number type) ≡ 1
 number_depth number type = ap expr_depth (sym (expr.rolls-Number number type)) ∙ expr_depth_layer (expr_layer.Number number type)
@@ -115,14 +100,6 @@ halt_depth kind file line = ap stmt_depth (sym (stmt.rolls-Halt kind file line))
 pub return_depth : (e : CoreExpr) → stmt_depth (stmt.Return e) ≡ 1 + expr_depth e
 return_depth e = ap stmt_depth (sym (stmt.rolls-Return e)) ∙ stmt_depth_layer (stmt_layer.Return e)
 
-pub expr_range_layer : (x : CoreExpr-F CoreExpr) → expr_in_range (roll-CoreExpr x) ≡ expr_range_step (map-CoreExpr CoreExpr Bool expr_in_range x)
-unfolding expr_in_range
-expr_range_layer x = fold-roll-CoreExpr Bool expr_range_step x
-
-pub stmt_range_layer : (x : CoreStmt-F CoreStmt) → stmt_in_range (roll-CoreStmt x) ≡ stmt_range_step (map-CoreStmt CoreStmt Bool stmt_in_range x)
-unfolding stmt_in_range
-stmt_range_layer x = fold-roll-CoreStmt Bool stmt_range_step x
-
 pub number_range : (number : ℤ) (type : ℕ) → expr_in_range (expr.Number number type) ≡ true
 number_range number type = ap expr_in_range (sym (expr.rolls-Number number type)) ∙ expr_range_layer (expr_layer.Number number type)
 
@@ -164,10 +141,6 @@ halt_range kind file line = ap stmt_in_range (sym (stmt.rolls-Halt kind file lin
 
 pub return_range : (e : CoreExpr) → stmt_in_range (stmt.Return e) ≡ expr_in_range e
 return_range e = ap stmt_in_range (sym (stmt.rolls-Return e)) ∙ stmt_range_layer (stmt_layer.Return e)
-
-pub strays_layer : (x : CoreStmt-F CoreStmt) → strays (roll-CoreStmt x) ≡ strays_step (map-CoreStmt CoreStmt Bool strays x)
-unfolding strays
-strays_layer x = fold-roll-CoreStmt Bool strays_step x
 
 pub store_strays : (path : CorePath) (e : CoreExpr) → strays (stmt.Store path e) ≡ false
 store_strays path e = ap strays (sym (stmt.rolls-Store path e)) ∙ strays_layer (stmt_layer.Store path e)

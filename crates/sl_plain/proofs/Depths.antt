@@ -1,6 +1,6 @@
 -- How deep the core of a plain program nests.
 use Rattle.std.proofs.Common.{◌≡◌, ℕ, suc, ◌+◌, ◌≤◌, pos, List, [], ◌∷◌, ◌++◌, map, max, Option, Some, None, codes, refl, sym, subst, ap, arith, le_trans}
-use Rattle.std.specs.List.{fold, AllByRecursion}
+use Rattle.std.specs.List.{AllByRecursion}
 use Rattle.sl_num.specs.declared.arithmetic.Op.TheVariants.{Add}
 use Rattle.sl_num.specs.declared.comparing.Comparison.TheVariants.{Less}
 use Rattle.sl_core.specs.declared.tree.CorePath.{CorePath}
@@ -9,7 +9,7 @@ use Rattle.sl_core.specs.declared.tree.CoreExpr.TheVariants as expr
 use Rattle.sl_core.specs.declared.tree.CoreStmt.{CoreStmt}
 use Rattle.sl_core.specs.declared.tree.CoreStmt.TheVariants as core
 use Rattle.sl_core.specs.Sound.{expr_depth, stmt_depth, greatest}
-use Rattle.sl_core.specs.Meaning.{truth}
+use Rattle.sl_num.specs.Comparing.{truth}
 use Rattle.sl_plain.specs.declared.line.Kind.{Kind}
 use Rattle.sl_plain.specs.declared.line.Kind.TheVariants as kind
 use Rattle.sl_plain.specs.declared.line.Atom.{Atom}
@@ -24,31 +24,9 @@ use Rattle.sl_plain.specs.Plain.{Declared, deepest, depth_step, depth, kind_of_a
 use Rattle.sl_plain.specs.Means.{assert_halt, halt_halt}
 use Rattle.sl_plain.specs.Lowered.{path_of, atom_expr, condition_expr, store_right, unnamed, leave_unless, raise, for_round, put_text, print_of, Lowered, in_order, count_of, lowered_step, lowered, z}
 use Rattle.sl_plain.proofs.Layers.{depth_layer, lowered_layer}
+use Rattle.sl_plain.proofs.Greatest.{greatest_within, greatest_bounds, all_to_map}
 use Rattle.sl_plain.proofs.Names.{all_append, all_so}
 use Rattle.sl_plain.proofs.CoreLayers.{number_depth, text_depth, path_depth, apply_depth, compare_depth, store_depth, if_depth, loop_depth, break_depth, get_depth, put_depth, halt_depth}
-
--- the greatest of some is no more than what bounds them all
-pub greatest_within : (n a : ℕ) (xs : List ℕ) → a ≤ n → AllByRecursion (λ x. x ≤ n) xs → fold max a xs ≤ n
-greatest_within n a [] le all = le
-greatest_within n a (x ∷ xs) le all = greatest_within n (max a x) xs (let first = all.0 in omega arith) all.1
-
--- it bounds them all
-greatest_above : (a : ℕ) (xs : List ℕ) → a ≤ fold max a xs
-greatest_above a [] = omega arith
-greatest_above a (x ∷ xs) = let rest = greatest_above (max a x) xs in omega arith
-
-pub greatest_bounds : (a : ℕ) (xs : List ℕ) → AllByRecursion (λ x. x ≤ fold max a xs) xs
-greatest_bounds a [] = tt
-greatest_bounds a (x ∷ xs) = (let rest = greatest_above (max a x) xs in omega arith, greatest_bounds (max a x) xs)
-
--- what is so of what each is mapped to
-all_of_map : {A B : Type 0} (P : B → Type 0) (f : A → B) (xs : List A) → AllByRecursion P (map f xs) → AllByRecursion (λ x. P (f x)) xs
-all_of_map P f [] all = tt
-all_of_map P f (x ∷ xs) all = (all.0, all_of_map P f xs all.1)
-
-all_to_map : {A B : Type 0} (P : B → Type 0) (f : A → B) (xs : List A) → AllByRecursion (λ x. P (f x)) xs → AllByRecursion P (map f xs)
-all_to_map P f [] all = tt
-all_to_map P f (x ∷ xs) all = (all.0, all_to_map P f xs all.1)
 
 module _ (names : List Declared) where
   -- an atom

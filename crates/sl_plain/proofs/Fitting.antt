@@ -13,7 +13,7 @@ use Rattle.sl_core.specs.declared.tree.CoreExpr.{CoreExpr}
 use Rattle.sl_core.specs.declared.tree.CoreExpr.TheVariants as expr
 use Rattle.sl_core.specs.declared.tree.CoreStmt.{CoreStmt}
 use Rattle.sl_core.specs.declared.tree.CoreStmt.TheVariants as core
-use Rattle.sl_core.specs.Meaning.{truth}
+use Rattle.sl_num.specs.Comparing.{truth}
 use Rattle.sl_core.specs.Sound.{NumberOf, type_has, type_of_place, kind_of, fits, strays, expr_in_range, stmt_in_range, is_source_place}
 use Rattle.sl_plain.specs.declared.line.Kind.{Kind as PlainKind}
 use Rattle.sl_plain.specs.declared.line.Kind.TheVariants as kind

@@ -5,7 +5,8 @@ use Rattle.std.specs.List.{IsDistinct}
 use Rattle.sl_run.specs.Run.{Trace, Went}
 use Rattle.sl_core.specs.Memory.{Memory, Frame, Number}
 use Rattle.sl_core.specs.Memory as core
-use Rattle.sl_core.specs.Meaning.{with_some, read, truth}
+use Rattle.sl_num.specs.Comparing.{truth}
+use Rattle.sl_core.specs.Meaning.{with_some, read}
 use Rattle.sl_core.specs.Meaning as core_meaning
 use Rattle.sl_plain.specs.declared.line.Kind.{Kind}
 use Rattle.sl_plain.specs.declared.line.Kind.TheVariants as kind
@@ -13,7 +14,7 @@ use Rattle.sl_plain.specs.Plain.{Declared, declaration}
 use Rattle.sl_plain.specs.Means.{Value, Of, Is, Variables, with_held}
 use Rattle.sl_plain.specs.Lowered.{path_of, unnamed}
 use Rattle.sl_plain.proofs.Names.{declares, name_of, place, either, same_bytes, bytes_eq_sym, position_is, mapped_at, set_at, stands}
-use Rattle.sl_plain.proofs.Slots.{get_left, get_right, set_left, set_right}
+use Rattle.sl_core.proofs.Slots.{some_same, get_left, get_right, set_left, set_right}
 
 -- a value in the core
 abbrev pub shown : Value → core.Value
@@ -100,13 +101,6 @@ ready_stored scope variables name entry value ready h holds other declared is =
     let entry_is : entry ≡ declared = some_same entry declared same
     in rw e (subst (λ (d : Declared). Holds d.type (Some value)) entry_is holds))
     (λ e. rw e (ready other declared is))
-  where
-    or_else : Option Declared → Declared → Declared
-    or_else None d = d
-    or_else (Some x) d = x
-
-    some_same : (a b : Declared) → Some a ≡ Some b → a ≡ b
-    some_same a b h = ap (λ o. or_else o a) h
 
 -- a declared name holds its first value
 pub ready_declared : (scope : List Declared) (variables : Variables) (entry : Declared) (value : Value) → Ready scope variables → Holds entry.type (Some value) → Ready (entry ∷ scope) (with_held entry.name value variables)

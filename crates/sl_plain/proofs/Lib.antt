@@ -5,7 +5,6 @@ pub mod LineParts
 pub mod LineForms
 pub mod Files
 pub mod Examples
-pub mod Slots
 pub mod Held
 pub mod Values
 pub mod Alike

@@ -6,11 +6,11 @@ use Rattle.sl_num.specs.declared.arithmetic.Halt.{Halt}
 use Rattle.sl_num.specs.declared.arithmetic.Op.TheVariants.{Add}
 use Rattle.sl_num.specs.declared.comparing.Comparison.TheVariants.{Less}
 use Rattle.sl_num.specs.Arithmetic.{applied}
-use Rattle.sl_num.specs.Comparing.{holds}
+use Rattle.sl_num.specs.Comparing.{holds, truth}
 use Rattle.sl_run.specs.Run.{Trace, Step, Went, Over, Act, pure, step_then, ◌>>=◌, ◌>>◌, turn_at, round_then, loop}
 use Rattle.sl_run.specs.Run as run
-use Rattle.sl_run.specs.Laws.{Agrees, Steady}
-use Rattle.sl_run.proofs.Steady.{bind_agrees, pure_agrees}
+use Rattle.sl_run.specs.Laws.{Steady}
+use Rattle.sl_run.proofs.Statements.{round_agrees}
 use Rattle.sl_run.proofs.Equations.{loop_is}
 use Rattle.sl_run.proofs.Alike.{BothGive}
 use Rattle.sl_core.specs.declared.tree.Core.{Core}
@@ -22,10 +22,11 @@ use Rattle.sl_core.specs.declared.tree.CoreExpr.{CoreExpr}
 use Rattle.sl_core.specs.declared.tree.CoreExpr.TheVariants as expr
 use Rattle.sl_core.specs.Memory.{Memory, Frame}
 use Rattle.sl_core.specs.Memory as held
-use Rattle.sl_core.specs.Meaning.{Callees, Flow, Next, Broke, Returned, then_on, after_round, evaluate, number_or_halt, halt_number, is_true, truth}
+use Rattle.sl_run.specs.Statements.{Next, Broke, then_on, after_round}
+use Rattle.sl_core.specs.Meaning.{Callees, Flow, evaluate, number_or_halt, halt_number, is_true}
 use Rattle.sl_core.specs.Meaning as lowest
 use Rattle.sl_core.proofs.Equations.{path_runs, number_runs, compare_runs, apply_runs, store_runs, if_runs, loop_runs, break_runs}
-use Rattle.sl_core.proofs.Steady.{meaning_agrees}
+use Rattle.sl_core.proofs.Steady.{in_order_agrees}
 use Rattle.sl_plain.specs.declared.line.Kind.TheVariants as kind
 use Rattle.sl_plain.specs.declared.line.Atom.{Atom}
 use Rattle.sl_plain.specs.declared.line.Condition.{Condition}
@@ -34,7 +35,7 @@ use Rattle.sl_plain.specs.Plain.{Declared, declaration, kind_of_atom, condition_
 use Rattle.sl_plain.specs.Means.{Value, Of, Variables, value_of, with_held, with_number, with_number_of, result_or_halt, condition_value, store, round_of, while_holds, for_numbers, count_until}
 use Rattle.sl_plain.specs.Lowered.{path_of, atom_expr, condition_expr, unnamed, leave_unless, raise, for_round, for_of, z}
 use Rattle.sl_plain.proofs.Names.{name_of}
-use Rattle.sl_plain.proofs.Slots.{SameBelow, same_below, set_below, then_below, get_set_same, get_set_other}
+use Rattle.sl_core.proofs.Slots.{SameBelow, same_below, set_below, then_below, get_set_same, get_set_other}
 use Rattle.sl_plain.proofs.Held.{memory_of, Ready, Within, Extends, store_is, read_unnamed, store_unnamed, ready_declared}
 use Rattle.sl_plain.proofs.Values.{atom_holds, with_number_is, atom_runs, condition_is, is_true_truth, sum_is, some_left, none_left}
 use Rattle.sl_plain.proofs.Alike.{WentOn, Alike, GoAlike, went_both, over_both, alike_from, go_same, bind_alike, loop_alike}
@@ -104,21 +105,9 @@ module _ (target : Core) (typed : slice_get target.types 0 ≡ Some (Int z_type)
   -- `for` ---------------------------------------------------------------------------------------------------------------
 
   module _ (calm : (function : ℕ) → Steady (call function)) where
-    -- what comes on agrees with itself
-    then_on_agrees : (n : ℕ) (go : Act Memory Flow) (flow : Flow) → Agrees n go go → Agrees n (then_on go flow) (then_on go flow)
-    then_on_agrees n go Next h = h
-    then_on_agrees n go Broke h = pure_agrees n Broke
-    then_on_agrees n go (Returned value) h = pure_agrees n (Returned value)
-
-    all_agree : (n : ℕ) (stmts : List CoreStmt) → Agrees n (does stmts) (does stmts)
-    all_agree n [] = pure_agrees n Next
-    all_agree n (s ∷ stmts) =
-        bind_agrees n (lowest.meaning target s call) (lowest.meaning target s call) (then_on (does stmts)) (then_on (does stmts)) (meaning_agrees n target s call call (λ function. calm function n))
-        (λ flow. then_on_agrees n (does stmts) flow (all_agree n stmts))
-
     -- a round gives no turn back
     round_steady : (stmts : List CoreStmt) → Steady (round stmts)
-    round_steady stmts n = bind_agrees n (does stmts) (does stmts) (λ flow. pure (after_round flow)) (λ flow. pure (after_round flow)) (all_agree n stmts) (λ flow. pure_agrees n (after_round flow))
+    round_steady stmts n = round_agrees n (does stmts) (does stmts) (in_order_agrees n target stmts call call (λ function. calm function n))
 
     module _ (scope inner : List Declared) (taken : ℕ) (name : List ℕ) (known : declaration names name ≡ Some (counted name)) (extends : Extends scope inner)
         (line : ℕ) (body : Act Variables (Unit {0})) (low : List CoreStmt) (goes : Same (counted name ∷ scope) inner (suc (suc taken)) body low) where

@@ -4,6 +4,7 @@ use Rattle.std.specs.List.{position_or_len, AllByRecursion, IsDistinct}
 use Rattle.std.proofs.lemmas.Slice.Eq.{bytes_eq-Decides}
 use Rattle.std.proofs.lemmas.Option.{slice_get-map}
 use Rattle.std.proofs.lemmas.Map.Keys.{IsDistinct-head, IsDistinct-tail}
+use Rattle.sl_core.proofs.Slots.{some_same}
 use Rattle.sl_plain.specs.Plain.{Declared, declaration}
 
 -- whether an entry declares a name
@@ -56,11 +57,8 @@ here : (first : Declared) (names : List Declared) (name : List ℕ) (entry : Dec
 here first names name entry e is = record {
   within = rw e (omega arith);
   at = rw e is;
-  named = ap name_of (some_same first entry (sym is)) ∙ same_bytes first.name name e;
+  named = ap name_of (some_same entry first (sym is)) ∙ same_bytes first.name name e;
 }
-  where
-    some_same : (a b : Declared) → Some b ≡ Some a → b ≡ a
-    some_same a b h = ap (λ o. unwrap_or o a) h
 
 -- a name that is declared stands at its place
 pub stands : (names : List Declared) (name : List ℕ) (entry : Declared) → declaration names name ≡ Some entry → Stands names name entry

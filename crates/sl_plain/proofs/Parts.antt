@@ -10,7 +10,8 @@ use Rattle.sl_core.specs.declared.tree.CoreStmt.{CoreStmt}
 use Rattle.sl_core.specs.declared.tree.CoreStmt.TheVariants as core
 use Rattle.sl_core.specs.Memory.{Memory, Frame}
 use Rattle.sl_core.specs.Memory as held
-use Rattle.sl_core.specs.Meaning.{Callees, Flow, Next, Broke, Returned, then_on, is_true, truth}
+use Rattle.sl_run.specs.Statements.{Next, Broke, Returned, then_on, in_order}
+use Rattle.sl_core.specs.Meaning.{Callees, Flow, is_true}
 use Rattle.sl_core.specs.Meaning as lowest
 use Rattle.sl_core.proofs.Equations.{text_runs, if_runs, put_runs, halt_runs}
 use Rattle.sl_plain.specs.declared.line.Kind.{Kind}
@@ -23,7 +24,7 @@ use Rattle.sl_plain.specs.Plain.{Declared, declaration, kind_of_atom, right_fits
 use Rattle.sl_plain.specs.Means.{Value, Of, Is, Variables, with_held, with_value, right_value, condition_value, printed_value, printed_truth, print_line, store}
 use Rattle.sl_plain.specs.Lowered.{path_of, atom_expr, store_right, condition_expr, put_text, print_of}
 use Rattle.sl_plain.proofs.Names.{name_of}
-use Rattle.sl_plain.proofs.Slots.{same_below}
+use Rattle.sl_core.proofs.Slots.{same_below}
 use Rattle.sl_plain.proofs.Held.{memory_of, Holds, Ready, Within, store_is}
 use Rattle.sl_plain.proofs.Values.{Gives, atom_holds, with_value_is, atom_runs, condition_is, right_is, is_true_truth}
 use Rattle.sl_plain.proofs.Alike.{Alike, GoAlike, went_both, over_both, go_same, bind_alike}
@@ -35,7 +36,7 @@ OnNext x flow = flow ≡ Next
 module _ (target : Core) (typed : slice_get target.types 0 ≡ Some (Int z_type)) (names : List Declared) (distinct : IsDistinct bytes_eq (map name_of names)) (below : List Frame) (rooms : ℕ) (call : Callees) where
   -- what statements of the core do
   abbrev pub do_all : List CoreStmt → Act Memory Flow
-  do_all stmts = lowest.in_order (map (lowest.meaning target) stmts) call
+  do_all stmts = in_order (map (lowest.meaning target) stmts) call
 
   -- a part of a program and its core do the same, and are never stuck
   abbrev pub Goes : List Declared → List Declared → ℕ → Act Variables (Unit {0}) → List CoreStmt → Type 0

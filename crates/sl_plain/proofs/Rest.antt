@@ -11,7 +11,7 @@ use Rattle.sl_num.specs.declared.arithmetic.Op.TheVariants.{Add}
 use Rattle.sl_num.specs.declared.comparing.Comparison.{Comparison}
 use Rattle.sl_num.specs.Arithmetic.{applied}
 use Rattle.sl_num.specs.Comparing.{holds}
-use Rattle.sl_core.specs.Meaning.{gotten}
+use Rattle.sl_run.specs.Statements.{gotten}
 use Rattle.sl_plain.specs.declared.line.Atom.{Atom}
 use Rattle.sl_plain.specs.declared.line.Right.{Right}
 use Rattle.sl_plain.specs.declared.line.Right.TheVariants.{Just, Compare, Apply, Get}

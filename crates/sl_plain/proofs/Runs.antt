@@ -15,7 +15,8 @@ use Rattle.sl_core.specs.declared.tree.CoreStmt.TheVariants as core
 use Rattle.sl_core.specs.declared.tree.CoreExpr.TheVariants as expr
 use Rattle.sl_core.specs.Memory.{Memory, Frame}
 use Rattle.sl_core.specs.Memory as held
-use Rattle.sl_core.specs.Meaning.{Callees, Flow, Next, Returned, then_on, begin, leave, given, body, functions, enter, run_callees, store_result, no_frames, core_run}
+use Rattle.sl_run.specs.Statements.{Next, Returned, then_on, in_order}
+use Rattle.sl_core.specs.Meaning.{Callees, Flow, begin, leave, given, body, functions, enter, run_callees, store_result, no_frames, core_run}
 use Rattle.sl_core.specs.Meaning as lowest
 use Rattle.sl_core.proofs.Equations.{path_runs, call_runs, return_runs}
 use Rattle.sl_core.proofs.Steady.{functions_respect}
@@ -192,13 +193,13 @@ module _ (plain : Plain) (is : IsProgram plain) where
 
   abbrev behind_call : Step Memory held.Value → Step Memory ℤ
   behind_call y =
-      step_then (step_then (step_then (step_then (step_then (step_then y (store_result (Some (variable 0)))) (λ _. pure Next)) (then_on (lowest.in_order (map (lowest.meaning target) gives) (run_callees target)))) given) leave) (λ value. lowest.with_number value pure)
+      step_then (step_then (step_then (step_then (step_then (step_then y (store_result (Some (variable 0)))) (λ _. pure Next)) (then_on (in_order (map (lowest.meaning target) gives) (run_callees target)))) given) leave) (λ value. lowest.with_number value pure)
 
   -- the whole of the core
   core_is : (t : Trace) → lowest.program target t no_frames ≡ behind_call (run_callees target 0 t start_memory)
   unfolding core_of
   core_is t =
-      ap (λ y. step_then (step_then (step_then (step_then y (then_on (lowest.in_order (map (lowest.meaning target) gives) (run_callees target)))) given) leave) (λ value. lowest.with_number value pure))
+      ap (λ y. step_then (step_then (step_then (step_then y (then_on (in_order (map (lowest.meaning target) gives) (run_callees target)))) given) leave) (λ value. lowest.with_number value pure))
       (call_runs target (run_callees target) (Some (variable 0)) 0 t start_memory)
 
   -- the outside knows the same of it

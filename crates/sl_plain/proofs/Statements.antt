@@ -1,5 +1,5 @@
 -- What the statements of a plain program do is what their core does, and they are never stuck.
-use Rattle.std.proofs.Common.{◌≡◌, ℕ, suc, ◌+◌, ◌≤◌, List, [], ◌∷◌, ◌++◌, max, map, Bool, true, false, ◌&&◌, Option, Some, None, option_and_then, is_some, unwrap_or, bytes_eq, codes, slice_get, refl, sym, subst, ap, ap₂, ◌∙◌, arith}
+use Rattle.std.proofs.Common.{◌≡◌, ℕ, suc, ◌+◌, ◌≤◌, List, [], ◌∷◌, ◌++◌, max, map, Bool, true, false, ◌&&◌, Option, Some, None, option_and_then, is_some, bytes_eq, codes, slice_get, refl, sym, subst, ap, ap₂, ◌∙◌, arith}
 use Rattle.std.specs.List.{IsDistinct, AllByRecursion}
 use Rattle.sl_run.specs.Run.{Act, pure, over, ◌>>=◌, choose}
 use Rattle.sl_run.specs.Run as run
@@ -28,6 +28,7 @@ use Rattle.sl_plain.specs.Means.{Variables, with_value, with_number, right_value
 use Rattle.sl_plain.specs.Means as means
 use Rattle.sl_plain.specs.Lowered.{path_of, atom_expr, condition_expr, store_right, unnamed, leave_unless, for_of, put_text, print_of, Lowered, lowered_step, lowered, unnamed_step, unnamed_in}
 use Rattle.sl_plain.specs.Lowered as lower
+use Rattle.sl_core.proofs.Slots.{some_same}
 use Rattle.sl_plain.proofs.Layers.{scoped_layer, declared_layer, lines_layer, meaning_layer, lowered_layer}
 use Rattle.sl_plain.proofs.Unnamed.{unnamed_layer, deepest_first, deepest_others}
 use Rattle.sl_plain.proofs.Names.{name_of, declares, either, same_bytes, KnownIn, all_before, all_behind, all_append, from_all, all_so}
@@ -47,9 +48,6 @@ then_found f (Some x) y h = (x, refl, h)
 pub there : {A : Type 0} (given : Option A) → is_some given ≡ true → (x : A) × (given ≡ Some x)
 there None h = grind arith
 there (Some x) h = (x, refl)
-
-some_same : {A : Type 0} (x y : A) → Some x ≡ Some y → x ≡ y
-some_same x y h = ap (λ o. unwrap_or o x) h
 
 -- where something is given only if a test holds, the test holds
 where_holds : (so : Bool) (scope scope' : List Declared) → where_so so scope ≡ Some scope' → (so ≡ true) × (scope ≡ scope')

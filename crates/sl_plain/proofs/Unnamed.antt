@@ -12,7 +12,7 @@ use Rattle.sl_plain.specs.declared.tree.Stmt.TheVariants as stmt
 use Rattle.sl_plain.specs.Plain.{deepest}
 use Rattle.sl_plain.specs.Lowered.{unnamed_step, unnamed_in}
 use Rattle.sl_plain.proofs.Names.{all_so}
-use Rattle.sl_plain.proofs.Depths.{greatest_within, greatest_bounds}
+use Rattle.sl_plain.proofs.Greatest.{greatest_within, greatest_bounds}
 
 pub unnamed_layer : (x : Stmt-F Stmt) → unnamed_in (roll-Stmt x) ≡ unnamed_step (map-Stmt Stmt ℕ unnamed_in x)
 unfolding unnamed_in

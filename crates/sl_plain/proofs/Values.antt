@@ -9,7 +9,7 @@ use Rattle.sl_num.specs.declared.arithmetic.Op.TheVariants.{Add}
 use Rattle.sl_num.specs.declared.comparing.Comparison.{Comparison}
 use Rattle.sl_num.specs.declared.comparing.Comparison.TheVariants.{Less}
 use Rattle.sl_num.specs.Arithmetic.{applied}
-use Rattle.sl_num.specs.Comparing.{holds}
+use Rattle.sl_num.specs.Comparing.{holds, truth}
 use Rattle.sl_run.specs.Run.{Ending, Done, TurnsSpent, StackSpent, Stuck, Asks, first_of, rest_of, Trace, Step, Went, Over, Act, pure, over, step_then, ◌>>=◌}
 use Rattle.sl_run.specs.Run as run
 use Rattle.sl_core.specs.declared.tree.Core.{Core}
@@ -19,7 +19,8 @@ use Rattle.sl_core.specs.Memory as core
 use Rattle.sl_core.specs.declared.tree.CorePath.{CorePath}
 use Rattle.sl_core.specs.declared.tree.CoreExpr.{CoreExpr}
 use Rattle.sl_core.specs.declared.tree.CoreExpr.TheVariants as expr
-use Rattle.sl_core.specs.Meaning.{evaluate, truth, halt_number, number_or_halt, is_true, gotten, Callees, Next, meaning}
+use Rattle.sl_run.specs.Statements.{gotten, Next}
+use Rattle.sl_core.specs.Meaning.{evaluate, halt_number, number_or_halt, is_true, Callees, meaning}
 use Rattle.sl_core.specs.Meaning as core_meaning
 use Rattle.sl_core.proofs.Equations.{number_runs, path_runs, apply_runs, compare_runs, store_runs, get_runs}
 use Rattle.sl_plain.specs.declared.line.Kind.{Kind}

@@ -15,7 +15,7 @@ use Rattle.sl_core.specs.declared.tree.CoreStmt.{CoreStmt}
 use Rattle.sl_core.specs.declared.tree.CoreStmt.TheVariants as core
 use Rattle.sl_core.specs.declared.tree.CoreExpr.{CoreExpr}
 use Rattle.sl_core.specs.declared.tree.CoreExpr.TheVariants as expr
-use Rattle.sl_core.specs.Meaning.{truth}
+use Rattle.sl_num.specs.Comparing.{truth}
 use Rattle.sl_plain.specs.declared.line.Kind.{Kind}
 use Rattle.sl_plain.specs.declared.line.Kind.TheVariants as kind
 use Rattle.sl_plain.specs.declared.line.Atom.{Atom}

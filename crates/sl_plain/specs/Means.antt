@@ -14,7 +14,8 @@ use Rattle.sl_num.specs.Comparing.{holds}
 use Rattle.sl_run.specs.Run.{Stuck, Act, Over, Went, pure, over, ◌>>=◌, ◌>>◌, choose, put_all, get, turn, loop}
 use Rattle.sl_run.specs.Run as run
 use Rattle.sl_run.specs.Outcome.{Outcome, whole_run}
-use Rattle.sl_core.specs.Meaning.{halt_number, gotten}
+use Rattle.sl_run.specs.Statements.{gotten}
+use Rattle.sl_core.specs.Meaning.{halt_number}
 use Rattle.sl_plain.specs.declared.line.Atom.{Atom}
 use Rattle.sl_plain.specs.declared.line.Atom.TheVariants.{Name, Number, Truth}
 use Rattle.sl_plain.specs.declared.line.Right.{Right}

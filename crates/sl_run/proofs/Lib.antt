@@ -5,3 +5,4 @@ pub mod Steady
 pub mod Equations
 pub mod Alike
 pub mod Outcomes
+pub mod Statements

@@ -3,6 +3,9 @@
 -- the run so far (`Trace`), and the parts (acts, `Act`) of which every meaning is made
 pub mod Run
 
+-- how statements are left, and how a run goes on after them (`FlowOf`, `then_on`, `after_round`); what there is of the input (`gotten`)
+pub mod Statements
+
 -- what the outside knows of a run that is over (`Outcome`)
 pub mod Outcome
 

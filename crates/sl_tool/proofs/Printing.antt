@@ -5,29 +5,8 @@ use Rattle.std.proofs.Math.Seq.{drop-cons}
 use Rattle.std.proofs.lemmas.List.{take-append-drop}
 use Rattle.sl_outside.specs.declared.source.Failed.{Failed}
 use Rattle.sl_outside.specs.Counts.{Rose}
-use Rattle.sl_outside.specs.Sink.{IsPrefix, SinkState, Put, Prints}
+use Rattle.sl_outside.specs.Sink.{IsPrefix, SinkState, Prints}
 use Rattle.sl_tool.proofs.Noting.{gave, gave_prefix}
-
--- one byte
-pub prints_one : (byte : ℕ) (a b : SinkState) (result : Result (Unit {0}) Failed) → Put (byte ∷ []) a b result → Prints (byte ∷ []) a b result
-prints_one byte a b (Ok done) put = inl (b, put, refl)
-prints_one byte a b (Err failed) put = inr (refl, put)
-
--- bytes, and then others
-pub prints_then : (xs ys : List ℕ) (a b c : SinkState) (result : Result (Unit {0}) Failed) → Prints xs a b (Ok tt) → Prints ys b c result → Prints (xs ++ ys) a c result
-prints_then [] ys a b c result h k = subst (λ s. Prints ys s c result) h k
-prints_then (x ∷ xs) ys a b c result (inl (m, put, rest)) k = inl (m, put, prints_then xs ys m b c result rest k)
-prints_then (x ∷ xs) ys a b c result (inr (e, put)) k = absurd (cc e)
-
--- bytes of which one failed stop those behind them
-pub prints_stop : (xs ys : List ℕ) (a b : SinkState) (failed : Failed) → Prints xs a b (Err failed) → Prints (xs ++ ys) a b (Err failed)
-prints_stop [] ys a b failed h = absurd h
-prints_stop (x ∷ xs) ys a b failed (inl (m, put, rest)) = inl (m, put, prints_stop xs ys m b failed rest)
-prints_stop (x ∷ xs) ys a b failed (inr (e, put)) = inr (e, put)
-
--- the same bytes by another name
-pub prints_same : (a b : SinkState) (xs ys : List ℕ) (result : Result (Unit {0}) Failed) → xs ≡ ys → Prints xs a b result → Prints ys a b result
-prints_same a b xs ys result e h = subst (λ bytes. Prints bytes a b result) e h
 
 -- a list, cut at one of its elements
 pub cut_at : {X : Type 0} (xs : List X) (i : ℕ) (x d : X) → i < length xs → x ≡ get_or xs i d → take i xs ++ (x ∷ drop (suc i) xs) ≡ xs

@@ -33,7 +33,7 @@ use Rattle.sl_frames.specs.Names.{variable_name, place_of, function_name, called
 use Rattle.sl_frames.specs.Promise.{HasOneType}
 use Rattle.sl_frames.specs.Translated.{code_of, put_byte, print, with_value, text_step, text_of, put_code, else_of, joined, stmts_step, stmts_of, needed, greatest, needs_step, needs}
 use Rattle.sl_frames.proofs.Layers.{text_layer, stmts_layer, needs_layer}
-use Rattle.sl_frames.proofs.Keeps.Layers.{expr_range_layer, fits_layer, stmt_range_layer, stmt_depth_layer}
+use Rattle.sl_core.proofs.Layers.{expr_range_layer, fits_layer, stmt_range_layer, stmt_depth_layer}
 use Rattle.sl_frames.proofs.Keeps.Tests.{some_then, test_passed, place_is, is_something, left_is, halt_is}
 use Rattle.sl_frames.proofs.Keeps.Inside.{one, IsPlaced}
 use Rattle.sl_frames.proofs.Keeps.Codes.{Fits, code_keeps}

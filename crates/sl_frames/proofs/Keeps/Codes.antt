@@ -37,7 +37,7 @@ use Rattle.sl_frames.specs.Names.{variable_name, temporary_name, place_of}
 use Rattle.sl_frames.specs.Promise.{HasOneType}
 use Rattle.sl_frames.specs.Translated.{number_expr, temporary, halt_at_zero, call_helper, set_temporary, where_it_fits, operate, Code, code_step, code_of}
 use Rattle.sl_frames.proofs.Layers.{code_layer}
-use Rattle.sl_frames.proofs.Keeps.Layers.{kind_layer, expr_range_layer, expr_depth_layer}
+use Rattle.sl_core.proofs.Layers.{kind_layer, expr_range_layer, expr_depth_layer}
 use Rattle.sl_frames.proofs.Keeps.Tests.{by_test, IsSmall, small_number, place_is, is_something, left_is, right_is, test_passed, halt_is}
 use Rattle.sl_frames.proofs.Keeps.Inside.{two, IsPlaced}
 

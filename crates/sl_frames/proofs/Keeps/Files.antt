@@ -20,7 +20,7 @@ use Rattle.c_tree.specs.Rules.{var_names, fun_names, NamesClash, AreAlike, IsSta
 use Rattle.c_tree.proofs.Lists.{in_none}
 use Rattle.c_helpers.specs.Functions.{helper_functions}
 use Rattle.c_helpers.specs.Laws.{IsOther}
-use Rattle.c_helpers.proofs.Names.{names_differ, differ_names, no_clash, none_of}
+use Rattle.c_tree.proofs.Names.{names_differ, differ_names, no_clash, none_of}
 use Rattle.c_helpers.proofs.Keeping.{body_nesting, function_keeps}
 use Rattle.c_helpers.proofs.Standing.{Contains-map, NestsLittle}
 use Rattle.c_helpers.proofs.Called.{laws}

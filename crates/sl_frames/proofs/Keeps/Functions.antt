@@ -19,7 +19,7 @@ use Rattle.c_tree.specs.Mangled.{mangled}
 use Rattle.c_tree.specs.Rules.{word, var_names, fun_names, NamesClash, last_is, ends_function}
 use Rattle.c_tree.proofs.Variants.{depth_of_const, ends_of_return, strays_of_return}
 use Rattle.c_helpers.specs.Functions.{constant, sum_fits, difference_fits, product_fits, quotient_fits, remainder, print, helper_functions}
-use Rattle.c_helpers.proofs.Names.{names_differ, no_clash, name_is}
+use Rattle.c_tree.proofs.Names.{names_differ, no_clash, name_is}
 use Rattle.c_helpers.proofs.Keeping.{AreAll, inside, CanCall, StmtGood, FunctionGood, formed_body}
 use Rattle.c_helpers.proofs.Composing.{constant_good, return_good, deeper}
 use Rattle.c_helpers.proofs.Standing.{Contains-map}

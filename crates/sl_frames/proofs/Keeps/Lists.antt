@@ -9,7 +9,7 @@ use Rattle.sl_core.specs.declared.tree.CoreFun.{CoreFun}
 use Rattle.c_tree.specs.declared.tree.CFun.{CFun}
 use Rattle.c_tree.specs.Rules.{fun_names}
 use Rattle.c_tree.proofs.Lists.{in_none, first_in}
-use Rattle.c_helpers.proofs.Names.{names_differ, differ_names}
+use Rattle.c_tree.proofs.Names.{names_differ, differ_names}
 use Rattle.c_helpers.proofs.Keeping.{AreAll}
 use Rattle.sl_frames.specs.Translated.{of_each}
 

@@ -25,7 +25,7 @@ use Rattle.c_helpers.specs.Functions.{constant}
 use Rattle.sl_frames.specs.Names.{place_of, called_name}
 use Rattle.sl_frames.specs.Translated.{halt_at_zero, call_helper, where_it_fits, operate, Code, code_step, code_of, put_byte, print, with_value, text_of, put_code, else_of, joined, stmts_step, stmts_of}
 use Rattle.sl_frames.proofs.Layers.{code_layer, stmts_layer}
-use Rattle.sl_frames.proofs.Keeps.Layers.{strays_layer}
+use Rattle.sl_core.proofs.Layers.{strays_layer}
 
 -- no `break` stands in a statement outside its loops
 abbrev pub Stays : CStmt → Type 0

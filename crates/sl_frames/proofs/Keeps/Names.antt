@@ -11,7 +11,7 @@ use Rattle.std.proofs.lemmas.Str.Parse.{digit_from_value}
 use Rattle.std.proofs.lemmas.List.Elements.{All-nil, All-cons, All-head, All-tail, All-append, All-weaker, All-from_recursion}
 use Rattle.c_tree.specs.Words.{IsIdentifierByte, IsDigit, IsName, subset_words, reserved_words}
 use Rattle.c_tree.specs.Mangled.{hex_digit, mangled_byte, mangled}
-use Rattle.c_helpers.proofs.Names.{not_among, differ_names, name_is, none_of}
+use Rattle.c_tree.proofs.Names.{not_among, differ_names, name_is, none_of}
 use Rattle.sl_frames.specs.Names.{variable_name, temporary_name}
 use Rattle.sl_frames.proofs.Keeps.Tests.{by_test}
 

@@ -11,7 +11,7 @@ use Rattle.sl_core.specs.Sound as sound
 use Rattle.c_helpers.proofs.Composing.{deepest_below}
 use Rattle.sl_frames.specs.Translated.{needed, greatest, needs_step, needs}
 use Rattle.sl_frames.proofs.Layers.{needs_layer}
-use Rattle.sl_frames.proofs.Keeps.Layers.{stmt_depth_layer}
+use Rattle.sl_core.proofs.Layers.{stmt_depth_layer}
 use Rattle.sl_frames.proofs.Keeps.Codes.{code_grows}
 use Rattle.sl_frames.proofs.Keeps.Blocks.{all_below}
 

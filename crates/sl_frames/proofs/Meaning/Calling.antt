@@ -15,11 +15,12 @@ use Rattle.c_tree.specs.Meaning.{begin_inline, body, inline_callees, number_of, 
 use Rattle.c_tree.proofs.Mangled.{distinguishes}
 use Rattle.c_helpers.specs.Functions.{helper_functions, sum_fits, difference_fits, product_fits, quotient_fits, remainder, digit, print}
 use Rattle.c_helpers.proofs.Called.{laws}
-use Rattle.c_helpers.proofs.Names.{names_differ, differ_names}
+use Rattle.c_tree.proofs.Names.{names_differ, differ_names}
 use Rattle.sl_frames.specs.Names.{function_name}
 use Rattle.sl_frames.specs.Translated.{of_each, function_of}
 use Rattle.sl_frames.proofs.Keeps.Tests.{of_all}
-use Rattle.sl_frames.proofs.Meaning.Finding.{some_same, get_left, get_right, found_at, found_none, before_or_behind}
+use Rattle.sl_core.proofs.Slots.{some_same, get_left, get_right}
+use Rattle.sl_frames.proofs.Meaning.Finding.{found_at, found_none, before_or_behind}
 use Rattle.sl_frames.proofs.Meaning.Naming.{same_name}
 use Rattle.sl_frames.proofs.Meaning.Helped.{Helps}
 

@@ -8,7 +8,7 @@ use Rattle.sl_num.specs.declared.arithmetic.Op.{Op}
 use Rattle.sl_num.specs.declared.arithmetic.Halt.{Halt}
 use Rattle.sl_num.specs.declared.comparing.Comparison.{Comparison}
 use Rattle.sl_num.specs.Arithmetic.{applied}
-use Rattle.sl_num.specs.Comparing.{holds}
+use Rattle.sl_num.specs.Comparing.{holds, truth}
 use Rattle.sl_run.specs.Run.{Went, Act, pure}
 use Rattle.sl_core.specs.declared.tree.Core.{Core}
 use Rattle.sl_core.specs.declared.tree.CoreType.{CoreType}
@@ -19,16 +19,15 @@ use Rattle.sl_core.specs.declared.tree.CoreExpr.{CoreExpr, CoreExpr-F, ind-CoreE
 use Rattle.sl_core.specs.declared.tree.CoreExpr.TheOpen as expr
 use Rattle.sl_core.specs.Memory as source
 use Rattle.sl_core.specs.Memory.{Value, Number, Bytes}
-use Rattle.sl_core.specs.Meaning as means
 use Rattle.sl_core.specs.Meaning.{with_some, apply_in, number_or_halt, halt_number, root_of, read, expr_step, evaluate}
 use Rattle.sl_core.specs.Sound.{Kind, type_has, is_number_of, are_of_one_type, place_has, kind_step, kind_of}
-use Rattle.sl_core.proofs.Layers.{evaluate_layer}
+use Rattle.sl_core.proofs.Layers.{evaluate_layer, kind_layer}
 use Rattle.c_tree.specs.declared.tree.CExpr.{CExpr}
 use Rattle.c_tree.specs.declared.tree.CExpr.TheVariants.{Read, Binary, Compare, Negate}
 use Rattle.c_tree.specs.declared.tree.CBinary.TheVariants as binary
 use Rattle.c_tree.specs.declared.tree.CStmt.{CStmt}
 use Rattle.c_tree.specs.Memory.{Tree}
-use Rattle.c_tree.specs.Meaning.{is_int64, truth}
+use Rattle.c_tree.specs.Meaning.{is_int64}
 use Rattle.c_tree.proofs.Running.{const_runs, binary_runs, compare_runs, negate_runs}
 use Rattle.c_helpers.specs.Functions.{constant}
 use Rattle.c_helpers.proofs.Sums.{Bounded, bounds}
@@ -36,15 +35,14 @@ use Rattle.sl_frames.specs.Promise.{int64_type, HasOneType}
 use Rattle.sl_frames.specs.Translated.{Code, number_expr, operate, temporary, code_step, code_of}
 use Rattle.sl_frames.specs.Names.{variable_name, temporary_name, place_of}
 use Rattle.sl_frames.proofs.Layers.{code_layer}
-use Rattle.sl_frames.proofs.Meaning.Places.{same_below}
+use Rattle.sl_core.proofs.Slots.{same_below}
 use Rattle.sl_frames.proofs.Meaning.Frames.{Where, does_none, has_variable}
 use Rattle.sl_frames.proofs.Meaning.Operations.{Ready, Stays, stays_constant, Operated, Computed, Halted, operated}
 use Rattle.sl_frames.proofs.Meaning.Related.{Beneath, source_with, HoldsLike, held_in, HoldLike}
 use Rattle.std.proofs.lemmas.Bool.{and_parts}
-use Rattle.sl_frames.proofs.Keeps.Layers.{kind_layer}
 use Rattle.sl_frames.proofs.Keeps.Tests.{place_is, only_type}
 use Rattle.sl_frames.proofs.Meaning.Kinds.{IsNumeric, of_type, first_numeric, second_numeric, tested, number_fits}
-use Rattle.sl_frames.proofs.Meaning.Expressions.{Evaluated, Gave, Halting, Sticks, same_truth, truth_fits, Good, two, Behind, two_evaluated}
+use Rattle.sl_frames.proofs.Meaning.Expressions.{Evaluated, Gave, Halting, Sticks, truth_fits, Good, two, Behind, two_evaluated}
 
 -- Numbers -------------------------------------------------------------------------------------------------------------
 
@@ -97,9 +95,9 @@ module _ (w : Where) (b : Beneath) (variables temporaries : ℕ) (ready : Ready 
 
   compared : (comparison : Comparison) (m n : ℤ) (free : ℕ) (vars : List (Option Value)) (others : List Tree) (l r : CExpr)
       → Stays w (variables + free) others l m → Stays w (variables + free) others r n
-      → Evaluated w b variables (pure (Number (means.truth (holds comparison m n)))) (record { before = []; value = Compare comparison l r; free = free }) free vars others
+      → Evaluated w b variables (pure (Number (truth (holds comparison m n)))) (record { before = []; value = Compare comparison l r; free = free }) free vars others
   compared comparison m n free vars others l r left right =
-      Gave (truth (holds comparison m n)) others (record { gives = λ t. ap (λ (number : ℤ). Went (Number number) t (source_with b vars)) (same_truth (holds comparison m n)) }) (truth_fits (holds comparison m n)) (does_none w others) (same_below (variables + free) others)
+      Gave (truth (holds comparison m n)) others (record { gives = λ t. refl }) (truth_fits (holds comparison m n)) (does_none w others) (same_below (variables + free) others)
       (record { stays = λ other same. let first = left.stays other same in let second = right.stays other same in record { has = λ t. simp (compare_runs, first.has, second.has) } })
 
   module _ (core : Core) (one : HasOneType core) where
@@ -178,7 +176,7 @@ module _ (w : Where) (b : Beneath) (variables temporaries : ℕ) (ready : Ready 
               let kinds = and_parts alike (type_has core type (pos 0)) tests.0 in
               subst (λ (stmts : List CStmt). Evaluated w b variables (expr_step core (expr.Compare comparison (evaluate core l) (evaluate core r) type)) (record { before = stmts; value = Compare comparison (first free).value (second free).value; free = (second free).free }) free vars others)
               (append-nil ((first free).before ++ (second free).before))
-              (two_good (λ m n. pure (Number (means.truth (holds comparison m n)))) (code_step (expr.Compare comparison (code_of l) (code_of r) type) free) []
+              (two_good (λ m n. pure (Number (truth (holds comparison m n)))) (code_step (expr.Compare comparison (code_of l) (code_of r) type) free) []
               (first_numeric (kind_of core function l) (kind_of core function r) kinds.0) (second_numeric (kind_of core function l) (kind_of core function r) kinds.0) free vars others like fits
               (λ m n after like' fits fits' stays stays'. compared comparison m n (second free).free vars after (first free).value (second free).value stays stays'));
         }

@@ -5,13 +5,13 @@ use Rattle.sl_run.specs.Run.{Ending, Stuck, Trace, Step, Went, Over, Act, pure, 
 use Rattle.sl_run.specs.Run as run
 use Rattle.sl_core.specs.Memory as source
 use Rattle.sl_core.specs.Memory.{Value, Number, Bytes}
-use Rattle.sl_core.specs.Meaning as means
+use Rattle.sl_num.specs.Comparing.{truth}
 use Rattle.sl_core.specs.Meaning.{with_some, with_number, apply_in, halt_number, root_of, read}
 use Rattle.c_tree.specs.declared.tree.CStmt.{CStmt}
 use Rattle.c_tree.specs.Memory.{Tree}
-use Rattle.c_tree.specs.Meaning.{is_int64, truth}
+use Rattle.c_tree.specs.Meaning.{is_int64}
 use Rattle.sl_frames.specs.Translated.{Code}
-use Rattle.sl_frames.proofs.Meaning.Places.{SameBelow, then_below}
+use Rattle.sl_core.proofs.Slots.{SameBelow, then_below}
 use Rattle.sl_frames.proofs.Meaning.Frames.{Where, Does, Halts, does_then, does_halts, halts_then}
 use Rattle.sl_frames.proofs.Meaning.Operations.{Ready, Stays}
 use Rattle.sl_frames.proofs.Meaning.Related.{Beneath, source_with, HoldLike, like_below}
@@ -30,10 +30,6 @@ pub data Evaluated (w : Where) (b : Beneath) (variables : ℕ) (a : Act source.M
   Gave : (number : ℤ) (after : List Tree) → Gives b a vars number → is_int64 number ≡ true → Does w code.before others after → SameBelow (variables + free) others after → Stays w (variables + code.free) after code.value number → Evaluated w b variables a code free vars others
   Halting : (kind file line : ℕ) → Ends b a vars (run.Halt kind file line) → Halts w code.before others kind file line → Evaluated w b variables a code free vars others
   Sticks : Ends b a vars (Stuck b.number) → Evaluated w b variables a code free vars others
-
-pub same_truth : (b : Bool) → means.truth b ≡ truth b
-same_truth true = refl
-same_truth false = refl
 
 pub truth_fits : (b : Bool) → is_int64 (truth b) ≡ true
 truth_fits true = refl

@@ -1,27 +1,12 @@
 -- Where the first element stands that passes a test.
-use Rattle.std.proofs.Common.{◌≡◌, ℕ, zero, suc, ◌+◌, ◌<◌, List, [], ◌∷◌, ◌++◌, length, Bool, true, false, not, cond, Some, None, refl, ap, ◌∙◌, arith}
+use Rattle.std.proofs.Common.{◌≡◌, ℕ, zero, suc, ◌+◌, ◌<◌, List, [], ◌∷◌, length, Bool, true, false, not, cond, Some, None, refl, ap, ◌∙◌, arith}
 use Rattle.std.specs.Prelude.{slice_get, nat_lt}
 use Rattle.std.specs.List.{position, position_or_len}
 use Rattle.std.proofs.lemmas.Bool.{lt-ltb, le-ltb}
 use Rattle.std.proofs.lemmas.Option.{slice_get_within}
-
--- what is there is the same
-pub some_same : {A : Type 0} (x y : A) → Some x ≡ Some y → x ≡ y
-some_same x y is = cc
+use Rattle.sl_core.proofs.Slots.{some_same}
 
 module _ {A : Type 0} where
-  -- what stands in the first of two lists
-  pub get_left : (xs ys : List A) (i : ℕ) → i < length xs → slice_get (xs ++ ys) i ≡ slice_get xs i
-  get_left [] ys i within = absurd (omega arith)
-  get_left (x ∷ xs) ys zero within = refl
-  get_left (x ∷ xs) ys (suc i) within = get_left xs ys i (omega arith)
-
-  -- and in the second
-  pub get_right : (xs ys : List A) (i n : ℕ) → n ≡ length xs + i → slice_get (xs ++ ys) n ≡ slice_get ys i
-  get_right [] ys i n is = let same : n ≡ i = omega arith in ap (slice_get ys) same
-  get_right (x ∷ xs) ys i zero is = absurd (omega arith)
-  get_right (x ∷ xs) ys i (suc n) is = get_right xs ys i n (omega arith)
-
   module _ (test : A → Bool) where
     -- what stands before a place fails
     abbrev pub FailBefore : List A → ℕ → Type 0

@@ -8,14 +8,15 @@ use Rattle.sl_run.specs.Alike.{SameSoFar, AlikeUnless, FollowsUnless, AnyCopies}
 use Rattle.sl_run.proofs.Alike.{excused_alike}
 use Rattle.sl_core.specs.Memory as source
 use Rattle.sl_core.specs.Memory.{Value, Number, Bytes}
+use Rattle.sl_run.specs.Statements.{Next, Broke, Returned, then_on}
 use Rattle.sl_core.specs.Meaning as means
 use Rattle.c_tree.specs.declared.tree.CStmt.{CStmt}
 use Rattle.c_tree.specs.Memory as c
 use Rattle.c_tree.specs.Memory.{Tree}
-use Rattle.c_tree.specs.Meaning.{Next, Broke, Returned, Flow, is_int64, then_on, meaning, block}
+use Rattle.c_tree.specs.Meaning.{Flow, is_int64, meaning, block}
 use Rattle.sl_frames.specs.Translated.{Code}
 use Rattle.sl_frames.proofs.Meaning.Frames.{Beside, memory_with, Where, Has, block_append}
-use Rattle.sl_frames.proofs.Meaning.Places.{same_below}
+use Rattle.sl_core.proofs.Slots.{same_below}
 use Rattle.sl_frames.proofs.Meaning.Related.{Beneath, source_with, HoldLike, like_below}
 use Rattle.sl_frames.proofs.Meaning.Expressions.{Evaluated, Gave, Halting, Sticks}
 
@@ -44,15 +45,15 @@ pub record ResultLike (value : Value) (given : Option ℤ) : Type 0 where
 
 -- both are left by the next statement or by a break, or return the same number
 abbrev pub FlowLike : means.Flow → Flow → Type 0
-FlowLike means.Next Next = Unit {0}
-FlowLike means.Broke Broke = Unit {0}
-FlowLike (means.Returned value) (Returned given) = ResultLike value given
-FlowLike means.Next Broke = ⊥
-FlowLike means.Next (Returned given) = ⊥
-FlowLike means.Broke Next = ⊥
-FlowLike means.Broke (Returned given) = ⊥
-FlowLike (means.Returned value) Next = ⊥
-FlowLike (means.Returned value) Broke = ⊥
+FlowLike Next Next = Unit {0}
+FlowLike Broke Broke = Unit {0}
+FlowLike (Returned value) (Returned given) = ResultLike value given
+FlowLike Next Broke = ⊥
+FlowLike Next (Returned given) = ⊥
+FlowLike Broke Next = ⊥
+FlowLike Broke (Returned given) = ⊥
+FlowLike (Returned value) Next = ⊥
+FlowLike (Returned value) Broke = ⊥
 
 -- nothing comes behind the last statement
 pub then_next : (x : Step c.Memory Flow) → step_then x (then_on (pure Next)) ≡ x

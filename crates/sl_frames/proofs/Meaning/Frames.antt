@@ -11,7 +11,8 @@ use Rattle.c_tree.specs.declared.tree.CStmt.{CStmt}
 use Rattle.c_tree.specs.declared.tree.CStmt.TheVariants.{Assign, Call}
 use Rattle.c_tree.specs.Scope.{Scope, number_named}
 use Rattle.c_tree.specs.Memory.{FrameAt, Pointer, Tree, Number, Frame, Memory}
-use Rattle.c_tree.specs.Meaning.{Next, Broke, Returned, Flow, Callees, Word, place_is_signed, located, read_number, write_number, evaluate, then_on, meaning, block}
+use Rattle.sl_run.specs.Statements.{Next, Broke, Returned, then_on}
+use Rattle.c_tree.specs.Meaning.{Flow, Callees, Word, place_is_signed, located, read_number, write_number, evaluate, meaning, block}
 use Rattle.c_tree.proofs.Running.{read_runs, assign_runs, call_to_runs}
 
 -- what is beside the variables of the last frame

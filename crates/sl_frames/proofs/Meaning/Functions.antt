@@ -11,6 +11,7 @@ use Rattle.sl_core.specs.declared.tree.Core.{Core}
 use Rattle.sl_core.specs.declared.tree.CoreFun.{CoreFun}
 use Rattle.sl_core.specs.Memory as source
 use Rattle.sl_core.specs.Memory.{Value, Number}
+use Rattle.sl_run.specs.Statements.{Next, Broke, Returned, then_on, in_order}
 use Rattle.sl_core.specs.Meaning as means
 use Rattle.sl_core.specs.Sound.{stmt_in_range, fits, IsFunction, IsSound}
 use Rattle.c_tree.specs.declared.tree.CFile.{CFile}
@@ -22,7 +23,7 @@ use Rattle.c_tree.specs.Memory as c
 use Rattle.c_tree.specs.Memory.{Tree, Unwritten}
 use Rattle.c_tree.specs.Scope.{scope_of}
 use Rattle.c_tree.specs.Rules.{last_is, ends_function}
-use Rattle.c_tree.specs.Meaning.{Next, Broke, Returned, Flow, then_on, block, given, begin, leave, in_frame, body, numbered_call, callees, with_some, functions, exit_value}
+use Rattle.c_tree.specs.Meaning.{Flow, block, given, begin, leave, in_frame, body, numbered_call, callees, with_some, functions, exit_value}
 use Rattle.c_helpers.specs.Functions.{helper_functions}
 use Rattle.sl_frames.specs.Names.{variable_name, temporary_name, function_name}
 use Rattle.sl_frames.specs.Promise.{HasOneType}
@@ -73,15 +74,15 @@ module _ (w : Where) (b : Beneath) (variables temporaries : ℕ) where
   -- what a function gives whose body was left so. Where the core's body comes to no return, the core is stuck
   ends_alike : (x : Step source.Memory means.Flow) (y : Step c.Memory Flow) (go : Flow → Act c.Memory (Option ℤ)) → ((g : Option ℤ) (u : Trace) (r : c.Memory) → go (Returned g) u r ≡ Went g u r)
       → AlikeIn w b variables temporaries FlowLike x y → AlikeIn w b variables temporaries ResultLike (step_then x means.given) (step_then y go)
-  ends_alike (Went means.Next t s) (Went Next u r) go gives h = excused_alike IsStuck AnyCopies (InFrame b w.beside variables temporaries) ResultLike (Stuck (source.running s.frames)) t (go Next u r) tt
-  ends_alike (Went means.Broke t s) (Went Broke u r) go gives h = excused_alike IsStuck AnyCopies (InFrame b w.beside variables temporaries) ResultLike (Stuck (source.running s.frames)) t (go Broke u r) tt
-  ends_alike (Went (means.Returned v) t s) (Went (Returned g) u r) go gives h = alike_of w b variables temporaries ResultLike (Went v t s) (Went v t s) (Went g u r) (go (Returned g) u r) refl (gives g u r) h
-  ends_alike (Went means.Next t s) (Went Broke u r) go gives h = absurd h.0
-  ends_alike (Went means.Next t s) (Went (Returned g) u r) go gives h = absurd h.0
-  ends_alike (Went means.Broke t s) (Went Next u r) go gives h = absurd h.0
-  ends_alike (Went means.Broke t s) (Went (Returned g) u r) go gives h = absurd h.0
-  ends_alike (Went (means.Returned v) t s) (Went Next u r) go gives h = absurd h.0
-  ends_alike (Went (means.Returned v) t s) (Went Broke u r) go gives h = absurd h.0
+  ends_alike (Went Next t s) (Went Next u r) go gives h = excused_alike IsStuck AnyCopies (InFrame b w.beside variables temporaries) ResultLike (Stuck (source.running s.frames)) t (go Next u r) tt
+  ends_alike (Went Broke t s) (Went Broke u r) go gives h = excused_alike IsStuck AnyCopies (InFrame b w.beside variables temporaries) ResultLike (Stuck (source.running s.frames)) t (go Broke u r) tt
+  ends_alike (Went (Returned v) t s) (Went (Returned g) u r) go gives h = alike_of w b variables temporaries ResultLike (Went v t s) (Went v t s) (Went g u r) (go (Returned g) u r) refl (gives g u r) h
+  ends_alike (Went Next t s) (Went Broke u r) go gives h = absurd h.0
+  ends_alike (Went Next t s) (Went (Returned g) u r) go gives h = absurd h.0
+  ends_alike (Went Broke t s) (Went Next u r) go gives h = absurd h.0
+  ends_alike (Went Broke t s) (Went (Returned g) u r) go gives h = absurd h.0
+  ends_alike (Went (Returned v) t s) (Went Next u r) go gives h = absurd h.0
+  ends_alike (Went (Returned v) t s) (Went Broke u r) go gives h = absurd h.0
   ends_alike (Over e t) (Over f u) go gives h = h
   ends_alike (Over e t) (Went flow u r) go gives h = excused_alike IsStuck AnyCopies (InFrame b w.beside variables temporaries) ResultLike e t (go flow u r) h
   ends_alike (Went flow t s) (Over f u) go gives h = absurd h
@@ -191,9 +192,9 @@ module _ (core : Core) (sound : IsSound core) (one : HasOneType core) (call : �
         (calls (record { ours = s; theirs = r }) callee tt (7 + callee) [] (record { function = other; there = is; other_is = refl; args_are = refl }) t u s r same (refl, refl)))
 
     -- its statements, and what it gives
-    pub inside_follows : FollowsIn here b variables temporaries ResultLike (means.in_order (map (means.meaning core) function.body) (λ callee. call callee tt) >>= means.given) (in_frame file (function_of core number function) (callees file call'))
+    pub inside_follows : FollowsIn here b variables temporaries ResultLike (in_order (map (means.meaning core) function.body) (λ callee. call callee tt) >>= means.given) (in_frame file (function_of core number function) (callees file call'))
     inside_follows =
-        body_by here b variables temporaries (means.in_order (map (means.meaning core) function.body) (λ callee. call callee tt)) (flat_map (stmts_of core) function.body) _
+        body_by here b variables temporaries (in_order (map (means.meaning core) function.body) (λ callee. call callee tt)) (flat_map (stmts_of core) function.body) _
         (in_order_follows here b variables temporaries ready core one function refl (λ callee. call callee tt) called function.body
         (all_true stmt_in_range function.body known.in_range.body) (all_true (fits core function) function.body known.fit) (each_at_most temporaries (map needs function.body) (omega arith)))
         (last_is (map ends_function (flat_map (stmts_of core) function.body)))
@@ -208,7 +209,7 @@ module _ (core : Core) (sound : IsSound core) (one : HasOneType core) (call : �
     -- a function in its frame
     pub inside_alike : (t u : Trace) → SameSoFar AnyCopies t u
         → AlikeIn (here number function there below_ours below_theirs) below_ours (length function.vars) (greatest (map needs function.body)) ResultLike
-        ((means.in_order (map (means.meaning core) function.body) (λ callee. call callee tt) >>= means.given) t (source_with below_ours (replicate (length function.vars) None)))
+        ((in_order (map (means.meaning core) function.body) (λ callee. call callee tt) >>= means.given) t (source_with below_ours (replicate (length function.vars) None)))
         (in_frame file (function_of core number function) (callees file call') u (memory_with below_theirs (replicate (length (vars_of function)) Unwritten)))
     inside_alike t u same =
         inside_follows number function there below_ours below_theirs t u _ _ same

@@ -4,7 +4,8 @@ use Rattle.std.specs.Prelude.{ℤ, pos, ◌+ℤ◌, ◌-ℤ◌, ◌*ℤ◌, int_
 use Rattle.std.specs.Fmt.{signed_decimal}
 use Rattle.sl_run.specs.Run.{Puts, Trace, Went}
 use Rattle.c_tree.specs.Memory.{Number, Memory}
-use Rattle.c_tree.specs.Meaning.{Callees, is_int64, truth}
+use Rattle.sl_num.specs.Comparing.{truth}
+use Rattle.c_tree.specs.Meaning.{Callees, is_int64}
 
 -- a call of two numbers of 64 bits gives this, and changes nothing
 abbrev pub Gives : Callees → List ℕ → ℤ → ℤ → ℤ → Type 0

@@ -4,10 +4,9 @@ use Rattle.std.specs.Prelude.{ℤ, slice_get}
 use Rattle.std.specs.Option.{option_and_then}
 use Rattle.std.proofs.lemmas.Bool.{le-leb}
 use Rattle.sl_core.specs.declared.tree.Core.{Core}
-use Rattle.sl_core.specs.Meaning.{gotten}
+use Rattle.sl_run.specs.Statements.{gotten}
 use Rattle.sl_core.specs.Sound.{Kind, NumberOf, Text, has_number, type_has, is_number_of, are_of_one_type}
 use Rattle.c_tree.specs.Meaning.{is_int64}
-use Rattle.c_tree.specs.Meaning as c
 use Rattle.sl_frames.specs.Promise.{HasOneType}
 use Rattle.sl_frames.proofs.Keeps.Tests.{some_then, test_passed, only_type}
 
@@ -49,11 +48,6 @@ number_fits core one type number h =
 pub gotten_fits : (byte : Option ℕ) → is_int64 (gotten byte) ≡ true
 gotten_fits None = refl
 gotten_fits (Some byte) = let small : byte % 256 ≤ 2 ^ 63 - 1 = omega arith in le-leb (byte % 256) (2 ^ 63 - 1) small
-
--- and it is the same in C
-pub gotten_same : (byte : Option ℕ) → c.gotten byte ≡ gotten byte
-gotten_same None = refl
-gotten_same (Some byte) = refl
 
 -- something that there is, and passes a test
 pub some_if : {A : Type 0} (test : A → Bool) (got : Option A) → is_some (option_and_then (λ x. if test x then Some x else None) got) ≡ true → (x : A) × (got ≡ Some x) × (test x ≡ true)

@@ -9,7 +9,8 @@ use Rattle.c_tree.specs.Meaning.{var_is_signed}
 use Rattle.sl_frames.specs.Names.{variable_name, temporary_name}
 use Rattle.sl_frames.specs.Translated.{declared, named_from}
 use Rattle.sl_frames.proofs.Keeps.Names.{variables_differ, temporaries_differ, variable_no_temporary}
-use Rattle.sl_frames.proofs.Meaning.Finding.{some_same, get_left, get_right, found_at, before_or_behind}
+use Rattle.sl_core.proofs.Slots.{some_same, get_left, get_right}
+use Rattle.sl_frames.proofs.Meaning.Finding.{found_at, before_or_behind}
 use Rattle.sl_frames.proofs.Meaning.Frames.{Where, Named}
 
 module _ (name : ℕ → List ℕ) where

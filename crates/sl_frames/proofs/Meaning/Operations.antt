@@ -9,14 +9,14 @@ use Rattle.sl_num.specs.declared.arithmetic.Halt.{Halt}
 use Rattle.sl_num.specs.declared.arithmetic.Halt.TheVariants.{Range, Zero}
 use Rattle.sl_num.specs.declared.comparing.Comparison.TheVariants.{Equal}
 use Rattle.sl_num.specs.Arithmetic.{in_type, applied}
-use Rattle.sl_num.specs.Comparing.{holds}
+use Rattle.sl_num.specs.Comparing.{holds, truth}
 use Rattle.sl_core.specs.Meaning.{halt_number}
 use Rattle.c_tree.specs.declared.tree.CExpr.{CExpr}
 use Rattle.c_tree.specs.declared.tree.CExpr.TheVariants.{Binary}
 use Rattle.c_tree.specs.declared.tree.CBinary.TheVariants as binary
 use Rattle.c_tree.specs.declared.tree.CStmt.{CStmt}
 use Rattle.c_tree.specs.Memory.{Tree, Number}
-use Rattle.c_tree.specs.Meaning.{is_int64, is_zero, truth}
+use Rattle.c_tree.specs.Meaning.{is_int64, is_zero}
 use Rattle.c_tree.proofs.Running.{const_runs, binary_runs, compare_runs, if_runs, halt_runs}
 use Rattle.c_helpers.specs.Functions.{constant}
 use Rattle.c_helpers.proofs.Sums.{bounds}
@@ -24,7 +24,7 @@ use Rattle.c_helpers.proofs.Quotients.{not_zero, remainder_fits, is_same, is_oth
 use Rattle.sl_frames.specs.Names.{variable_name, temporary_name}
 use Rattle.sl_frames.specs.Translated.{temporary, halt_at_zero, call_helper, set_temporary, where_it_fits, operate}
 use Rattle.sl_frames.specs.Promise.{int64_type}
-use Rattle.sl_frames.proofs.Meaning.Places.{get_set_same, SameBelow, same_below, set_below, then_below}
+use Rattle.sl_core.proofs.Slots.{get_set_same, SameBelow, same_below, set_below, then_below}
 use Rattle.sl_frames.proofs.Meaning.Frames.{Where, Has, Makes, Does, Halts, Named, does_none, does_one, makes_halts, has_variable, makes_assigned, makes_called}
 use Rattle.sl_frames.proofs.Meaning.Helped.{Gives, Helps}
 

@@ -9,7 +9,7 @@ use Rattle.sl_core.specs.Memory.{Value, Number, Bytes}
 use Rattle.c_tree.specs.Memory as c
 use Rattle.c_tree.specs.Memory.{Tree}
 use Rattle.c_tree.specs.Meaning.{is_int64}
-use Rattle.sl_frames.proofs.Meaning.Places.{get_set_same, get_set_other, SameBelow}
+use Rattle.sl_core.proofs.Slots.{get_set_same, get_set_other, SameBelow}
 
 -- what is beside the variables of the last frame of a core
 pub record Beneath : Type 0 where

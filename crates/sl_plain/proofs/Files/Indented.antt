@@ -1,13 +1,14 @@
 -- Lines behind spaces.
-use Rattle.std.proofs.Common.{◌≡◌, ℕ, zero, suc, ◌+◌, List, [], ◌∷◌, ◌++◌, replicate, drop, true, false, cond, Some, refl, sym, ap, ◌∙◌, subst, arith, ne_eqb, IfSome, codes}
+use Rattle.std.proofs.Common.{◌≡◌, ℕ, zero, suc, ◌+◌, List, [], ◌∷◌, ◌++◌, replicate, drop, false, cond, Some, refl, sym, ap, ◌∙◌, subst, arith, IfSome}
+use Rattle.std.specs.Prelude.{◌==◌}
 use Rattle.std.specs.List.{prefix_len}
 use Rattle.sl_plain.specs.declared.line.Line.{Line}
-use Rattle.sl_plain.specs.declared.line.Line.TheVariants.{Declare, Assign, Print, PrintText, If, While, Spin, For, Else, Close, Assert, Halt, Return}
-use Rattle.sl_plain.specs.Lines.{BeginsSmall, IsLine, spelled, spelled_right}
+use Rattle.sl_plain.specs.Lines.{IsLine, spelled}
 use Rattle.sl_plain.specs.LineReading.{line_of}
 use Rattle.sl_plain.specs.Plain.{indented}
 use Rattle.sl_plain.specs.PlainReading.{indented_line_of}
 use Rattle.sl_plain.proofs.LineParts.Cuts.{is_space, spaces_and_rest}
+use Rattle.sl_plain.proofs.LineForms.Bytes.{first_of, first_other}
 use Rattle.sl_plain.proofs.LineForms.Exactness.{line_found, line_there}
 
 -- the line that bytes are, and the spaces in front of it
@@ -23,26 +24,14 @@ indented_found bytes line found =
     let is = subst (λ o. IfSome o (λ l. IsLine l × (spelled l ≡ rest))) found (line_found rest)
     in record { count = count; are = spaces_and_rest bytes ∙ ap (λ r. replicate count 32 ++ r) (sym is.1); is_line = is.0 }
 
--- no line begins with a space
+-- no space is in front of bytes that begin with none
+none_in_front : (bytes : List ℕ) → (first_of bytes == 32) ≡ false → prefix_len is_space bytes ≡ 0
+none_in_front [] other = refl
+none_in_front (byte ∷ bytes) other = ap (λ t. cond t (1 + prefix_len is_space bytes) 0) other
+
+-- so none is in front of a line
 no_space : (line : Line) → IsLine line → prefix_len is_space (spelled line) ≡ 0
-no_space (Declare true name type first) is = refl
-no_space (Declare false name type first) is = refl
-no_space (Assign name value) is = begins_so name (codes " = ") (spelled_right value) is.0.small
-  where
-    begins_so : (name more others : List ℕ) → BeginsSmall name → prefix_len is_space (name ++ more ++ others) ≡ 0
-    begins_so [] more others begins = absurd begins
-    begins_so (byte ∷ name) more others begins = ap (λ t. cond t (1 + prefix_len is_space (name ++ more ++ others)) 0) (ne_eqb byte 32 (λ e. omega (arith, begins)))
-no_space (Print atom) is = refl
-no_space (PrintText text) is = refl
-no_space (If test) is = refl
-no_space (While test) is = refl
-no_space (Spin test) is = refl
-no_space (For name first end) is = refl
-no_space Else is = refl
-no_space Close is = refl
-no_space (Assert test) is = refl
-no_space (Halt text) is = refl
-no_space (Return atom) is = refl
+no_space line is = none_in_front (spelled line) (first_other line is)
 
 -- the spaces in front of bytes that begin with none
 spaces_there : (count : ℕ) (bytes : List ℕ) → prefix_len is_space bytes ≡ 0 → prefix_len is_space (replicate count 32 ++ bytes) ≡ count

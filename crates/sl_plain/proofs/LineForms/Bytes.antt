@@ -1,5 +1,5 @@
 -- The bytes of a line: none is below the space, and the first is no space.
-use Rattle.std.proofs.Common.{◌≡◌, ◌≢◌, ℕ, ◌≤◌, List, [], ◌∷◌, ◌++◌, Bool, true, false, refl, ap, ◌∙◌, arith, ne_eqb, All, codes, Decides}
+use Rattle.std.proofs.Common.{◌≡◌, ℕ, ◌≤◌, List, [], ◌∷◌, ◌++◌, Bool, true, false, refl, ◌∙◌, arith, ne_eqb, All, codes, Decides}
 use Rattle.std.specs.Prelude.{nat_le, ◌==◌}
 use Rattle.std.specs.List.{list_all}
 use Rattle.std.proofs.lemmas.Bool.{and_from}
@@ -126,12 +126,12 @@ pub line_bytes : (line : Line) → IsLine line → All (λ byte. 32 ≤ byte) (s
 line_bytes line is = (Decides-visible (spelled line)).0 (visible_line line is)
 
 -- the first byte of bytes
-abbrev first_of : List ℕ → ℕ
+abbrev pub first_of : List ℕ → ℕ
 first_of [] = 0
 first_of (byte ∷ bytes) = byte
 
 -- the first byte of a line is no space
-first_other : (line : Line) → IsLine line → (first_of (spelled line) == 32) ≡ false
+pub first_other : (line : Line) → IsLine line → (first_of (spelled line) == 32) ≡ false
 first_other (Declare true name type first) is = refl
 first_other (Declare false name type first) is = refl
 first_other (Assign [] value) is = absurd is.0.small
@@ -147,9 +147,3 @@ first_other Close is = refl
 first_other (Assert test) is = refl
 first_other (Halt text) is = refl
 first_other (Return atom) is = refl
-
--- a line does not begin with a space
-pub no_space_first : (line : Line) (more : List ℕ) → IsLine line → spelled line ≢ 32 ∷ more
-no_space_first line more is e =
-    let other = first_other line is in
-    let space : (first_of (spelled line) == 32) ≡ true = ap (λ bytes. first_of bytes == 32) e in cc

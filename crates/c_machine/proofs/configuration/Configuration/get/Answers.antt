@@ -3,7 +3,7 @@ use Rattle.std.specs.Int.{w128}
 use Rattle.std.specs.Option.{is_none, is_some}
 use Rattle.std.proofs.lemmas.Int.{to_z-of_z}
 use Rattle.sl_outside.specs.Source.{SourceState, source_state}
-use Rattle.c_tree.specs.Meaning.{gotten}
+use Rattle.sl_run.specs.Statements.{gotten}
 use Rattle.c_machine.specs.State.{is_declared, with_held}
 use Rattle.c_machine.specs.Resume.{state_of}
 use Rattle.c_machine.specs.Outside.{Outside, outside}

@@ -40,20 +40,20 @@ no_clash names apart free (inr taken) = All-contains (λ name. ¬ Contains reser
 -- Names ---------------------------------------------------------------------------------------------------------------
 
 -- whether a byte stands in words
-abbrev in_word : ℕ → Bool
+abbrev pub in_word : ℕ → Bool
 in_word byte = is_ascii_alphanumeric byte || byte == 95
 
 -- the test says so
-in_word_decides : (byte : ℕ) → Decides (in_word byte) (IsIdentifierByte byte)
+pub in_word_decides : (byte : ℕ) → Decides (in_word byte) (IsIdentifierByte byte)
 in_word_decides byte = Decides-or (is_ascii_alphanumeric byte) (byte == 95) ((λ is. is), (λ is. is)) (Decides-eqb byte 95)
 
 -- whether a spelling is an identifier
-abbrev is_word : List ℕ → Bool
+abbrev pub is_word : List ℕ → Bool
 is_word [] = false
 is_word (byte ∷ bytes) = not (is_ascii_digit byte) && list_all in_word (byte ∷ bytes)
 
 -- where the test passes, it is one
-word_is : (spelling : List ℕ) → is_word spelling ≡ true → IsIdentifier spelling
+pub word_is : (spelling : List ℕ) → is_word spelling ≡ true → IsIdentifier spelling
 word_is [] passes = cc
 word_is (byte ∷ bytes) passes =
     let parts = and_parts (not (is_ascii_digit byte)) (list_all in_word (byte ∷ bytes)) passes in
