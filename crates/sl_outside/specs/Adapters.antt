@@ -1,8 +1,12 @@
 -- What the adapters over the system hold: what they stand over, how many of their calls answered a fault, and how often they were
--- called. And what reading a byte and writing bytes whole do to what they stand over.
+-- called. What reading a byte and writing bytes whole do to what they stand over, and what the errors of the system mean.
 use Rattle.std.specs.Prelude.{ℕ, List, [], ◌∷◌, Option, Some, None, Result, Ok, Err}
 use Rattle.std.specs.Io.KnownBytes.{Keeps, Appends, Consumes, IsAtEnd}
+use Rattle.std.specs.declared.io.ErrorKind.{ErrorKind}
+use Rattle.std.specs.declared.io.ErrorKind.TheVariants.{NotFound, NotADirectory, OutOfMemory}
 use Rattle.sl_outside.specs.Sink.{IsPrefix}
+use Rattle.sl_outside.specs.declared.folder.Refused.{Refused}
+use Rattle.sl_outside.specs.declared.folder.Refused.TheVariants.{Failed, Mem}
 use Rattle.sl_outside.specs.declared.adapters.disk.FolderOnDisk.{FolderOnDisk}
 use Rattle.sl_outside.specs.declared.adapters.streams.SourceOnInput.{SourceOnInput}
 use Rattle.sl_outside.specs.declared.adapters.streams.SinkOnOutput.{SinkOnOutput}
@@ -51,3 +55,14 @@ ByteRead old new (Err error) = Keeps old new
 abbrev pub WholeWritten : {E : Type 0} → Option (List ℕ) → Option (List ℕ) → List ℕ → Result (Unit {0}) E → Type 0
 WholeWritten old new bytes (Ok done) = Appends old new bytes
 WholeWritten old new bytes (Err error) = (prefix : List ℕ) × IsPrefix prefix bytes × Appends old new prefix
+
+-- what an error of the system at opening or reading a file means, by its kind, where the file is there: want of memory, or a fault
+abbrev pub refused_for : ErrorKind → Refused
+refused_for OutOfMemory = Mem
+refused_for kind = Failed
+
+-- what a read answers where the file can't be opened. A name that doesn't exist, also one below a file, isn't there
+abbrev pub read_answer : ErrorKind → Result (Option (List ℕ)) Refused
+read_answer NotFound = Ok None
+read_answer NotADirectory = Ok None
+read_answer kind = Err (refused_for kind)

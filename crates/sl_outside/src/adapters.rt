@@ -1,4 +1,5 @@
 mod disk;
+mod retrying;
 mod streams;
 
 pub use disk::FolderOnDisk;

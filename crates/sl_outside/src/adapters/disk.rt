@@ -1,13 +1,15 @@
-ghost use Rattle.std.specs.Prelude.{◌≡◌, ◌<◌, ◌≤◌, ◌^◌, length, IfErr, IfOk, IfSome, IsErr};
-ghost use Rattle.sl_outside.specs.Adapters.{disk_faults, disk_calls};
+ghost use Rattle.std.specs.Prelude.{◌≡◌, ◌<◌, ◌≤◌, ◌^◌, [], length, Some, Err, IfErr, IfOk, IfSome, IsErr, IsOk, IsOkAnd, IsSome};
+ghost use Rattle.std.specs.IoError.{error_kind};
+ghost use Rattle.sl_outside.specs.Adapters.{disk_faults, disk_calls, read_answer, refused_for, WholeWritten};
 
+use super::retrying::read_retrying;
 use super::streams::write_whole;
 use crate::{Folder, Refused};
 use sl_text::Row;
 use std::alloc::Global;
-use std::fs;
-use std::io::{ErrorKind, Read};
+use std::io::{ErrorKind, Read, Write};
 use std::rt::Files;
+use std::{fs, io};
 
 /// A file with more bytes is a fault.
 const MAX_FILE_LEN: usize = 1 << 30;
@@ -51,7 +53,7 @@ impl<'a, R: Files> Folder for FolderOnDisk<'a, R> {
 
     fn read(&mut self, alloc: Global, name: &str) -> Result<Option<Row<u8>>, Refused> {
         self.calls = self.calls.saturating_add(1);
-        let found = read_file(alloc, self.rt, name);
+        let found = read_opened(alloc, fs::open(self.rt, name));
         if let Err(Refused::Failed) = &found {
             self.faults = self.faults.saturating_add(1);
         }
@@ -60,7 +62,7 @@ impl<'a, R: Files> Folder for FolderOnDisk<'a, R> {
 
     fn write(&mut self, _alloc: Global, name: &str, bytes: &[u8]) -> Result<(), Refused> {
         self.calls = self.calls.saturating_add(1);
-        let written = write_file(self.rt, name, bytes);
+        let written = write_opened(&mut fs::create(self.rt, name), bytes);
         if let Err(Refused::Failed) = &written {
             self.faults = self.faults.saturating_add(1);
         }
@@ -68,8 +70,18 @@ impl<'a, R: Files> Folder for FolderOnDisk<'a, R> {
     }
 }
 
-fn read_file<R: Files>(alloc: Global, rt: &R, name: &str) -> Result<Option<Row<u8>>, Refused> {
-    match fs::open(rt, name) {
+/// What is read of a file, where the system opened it, and else what its error means.
+fn read_opened<F: Read + Drop>(
+    alloc: Global,
+    opened: io::Result<F>,
+) -> Result<Option<Row<u8>>, Refused>
+    ensures not_opened { IfErr opened (λ e. result ≡ read_answer (error_kind e)) }
+    ensures there { IsOk opened → IfOk result IsSome }
+    ensures whole { IfOk opened (λ file. IfOk result (λ found. IfSome (F.remaining file) (λ all. found ≡ Some all))) }
+    ensures short { IfOk opened (λ file. IfOk result (λ found. IfSome found (λ bytes. length bytes ≤ 2 ^ 30))) }
+    ensures too_long { IfOk opened (λ file. IfSome (F.remaining file) (λ all. 2 ^ 30 < length all → IsErr result)) }
+{
+    match opened {
         Ok(mut file) => Ok(Some(read_whole(alloc, &mut file)?)),
         Err(e) => match e.kind() {
             ErrorKind::NotFound | ErrorKind::NotADirectory => Ok(None),
@@ -87,7 +99,7 @@ fn read_whole<F: Read>(alloc: Global, file: &mut F) -> Result<Row<u8>, Refused>
     let mut bytes = Vec::new(alloc);
     let mut buffer = [0u8; BUFFER_LEN];
     for _ in 0..u64::MAX {
-        match file.read(&mut buffer) {
+        match read_retrying(file, &mut buffer) {
             Ok(0) => return Ok(Row::from_vec(bytes)),
             Ok(count) => {
                 bytes.extend_from_slice(&buffer[..count])?;
@@ -95,24 +107,30 @@ fn read_whole<F: Read>(alloc: Global, file: &mut F) -> Result<Row<u8>, Refused>
                     return Err(Refused::Failed);
                 }
             }
-            Err(e) => match e.kind() {
-                ErrorKind::Interrupted => {}
-                kind => return Err(refused(kind)),
-            },
+            Err(e) => return Err(refused(e.kind())),
         }
     }
     Err(Refused::Failed)
 }
 
-/// Every error is a fault, want of memory too: the file may have been emptied before.
-fn write_file<R: Files>(rt: &R, name: &str, bytes: &[u8]) -> Result<(), Refused>
-    ensures { IfErr result (λ refused. refused ≡ Refused.Failed) }
+/// Writes a file that the system made or emptied. Every error is a fault, want of memory too: the file may have been emptied
+/// before.
+fn write_opened<F: Write>(opened: &mut io::Result<F>, bytes: &[u8]) -> Result<(), Refused>
+    ensures not_opened { IsErr opened.old → result ≡ Err Refused.Failed }
+    ensures written { IfOk opened.old (λ old. IsOkAnd opened.new (λ new. WholeWritten (F.contents old) (F.contents new) bytes.now result)) }
+    ensures none { IsOk opened.old → bytes.now ≡ [] → IsOk result }
+    ensures refused { IfErr result (λ refused. refused ≡ Refused.Failed) }
 {
-    let written = fs::create(rt, name).and_then(|mut file| write_whole(&mut file, bytes));
-    written.map_err(|_| Refused::Failed)
+    match opened {
+        Ok(file) => write_whole(file, bytes).map_err(|_| Refused::Failed),
+        Err(_) => Err(Refused::Failed),
+    }
 }
 
-fn refused(kind: ErrorKind) -> Refused {
+/// What an error at opening or reading means that isn't that the file isn't there.
+fn refused(kind: ErrorKind) -> Refused
+    ensures { result ≡ refused_for kind }
+{
     match kind {
         ErrorKind::OutOfMemory => Refused::Mem,
         _ => Refused::Failed,

@@ -1,6 +1,10 @@
-ghost use Rattle.std.specs.Prelude.{◌≡◌};
+ghost use Rattle.std.specs.Prelude.{◌≡◌, ◌≢◌, [], IfErr, IsOk, is_err};
+ghost use Rattle.std.specs.IoError.{error_kind};
+ghost use Rattle.sl_outside.specs.Counts.{HasCause, one_more};
+ghost use Rattle.sl_outside.specs.Sink.{PutGives};
 ghost use Rattle.sl_outside.specs.Adapters.{input_reader, input_faults, input_calls, output_writer, output_faults, output_calls, ByteRead, WholeWritten};
 
+use super::retrying::{read_retrying, write_retrying};
 use crate::{Failed, Sink, Source};
 use std::io;
 use std::io::{ErrorKind, Read, Write};
@@ -51,21 +55,14 @@ impl<R: Read + Drop> Source for SourceOnInput<R> {
 
 /// The next byte, or None at the end.
 fn read_byte<R: Read>(reader: &mut R) -> io::Result<Option<u8>>
-    ensures { ByteRead (R.remaining reader.old) (R.remaining reader.new) result }
+    ensures byte { ByteRead (R.remaining reader.old) (R.remaining reader.new) result }
+    ensures retried { IfErr result (λ e. error_kind e ≢ ErrorKind.Interrupted) }
 {
     let mut byte = [0u8; 1];
-    for _ in 0..u64::MAX {
-        match reader.read(&mut byte) {
-            Ok(0) => return Ok(None),
-            Ok(_) => return Ok(Some(byte[0])),
-            Err(e) => {
-                if e.kind() != ErrorKind::Interrupted {
-                    return Err(e);
-                }
-            }
-        }
+    match read_retrying(reader, &mut byte)? {
+        0 => Ok(None),
+        _ => Ok(Some(byte[0])),
     }
-    Err(io::Error::from(ErrorKind::Interrupted))
 }
 
 /// A writer as a sink. It tells what its writer tells, which for standard output is nothing. A write that takes nothing of a
@@ -100,7 +97,12 @@ impl<W: Write + Drop> Sink for SinkOnOutput<W> {
 
     ghost calls = { output_calls };
 
-    fn put(&mut self, bytes: &[u8]) -> Result<(), Failed> {
+    fn put(&mut self, bytes: &[u8]) -> Result<(), Failed>
+        ensures taken { PutGives (W.contents (output_writer self.old)) (W.contents (output_writer self.new)) bytes.now result }
+        ensures cause { HasCause (is_err result) (output_faults self.old) (output_faults self.new) }
+        ensures counted { output_calls self.new ≡ one_more (output_calls self.old) }
+        ensures none { bytes.now ≡ [] → IsOk result }
+    {
         self.calls = self.calls.saturating_add(1);
         match write_whole(&mut self.writer, bytes) {
             Ok(()) => Ok(()),
@@ -112,24 +114,19 @@ impl<W: Write + Drop> Sink for SinkOnOutput<W> {
     }
 }
 
-/// Writes all the bytes, in as many writes as it takes. Where it fails it wrote a prefix of them.
+/// Writes all the bytes, in as many writes as it takes, which is none where there are none. Where it fails it wrote a prefix of
+/// them.
 pub fn write_whole<W: Write>(writer: &mut W, bytes: &[u8]) -> io::Result<()>
-    ensures { WholeWritten (W.contents writer.old) (W.contents writer.new) bytes.now result }
+    ensures written { WholeWritten (W.contents writer.old) (W.contents writer.new) bytes.now result }
+    ensures none { bytes.now ≡ [] → IsOk result }
+    ensures retried { IfErr result (λ e. error_kind e ≢ ErrorKind.Interrupted) }
 {
     let mut rest = bytes;
-    for _ in 0..u64::MAX {
-        if rest.is_empty() {
-            return Ok(());
-        }
-        match writer.write(rest) {
-            Ok(0) => return Err(io::Error::from(ErrorKind::WriteZero)),
-            Ok(count) => rest = &rest[count..],
-            Err(e) => {
-                if e.kind() != ErrorKind::Interrupted {
-                    return Err(e);
-                }
-            }
+    while !rest.is_empty() {
+        match write_retrying(writer, rest)? {
+            0 => return Err(io::Error::from(ErrorKind::WriteZero)),
+            count => rest = &rest[count..],
         }
     }
-    Err(io::Error::from(ErrorKind::Interrupted))
+    Ok(())
 }

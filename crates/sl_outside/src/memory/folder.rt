@@ -46,7 +46,13 @@ impl Folder for SureFolder {
 
     ghost log = { λ _. None };
 
-    fn read(&mut self, alloc: Global, name: &str) -> Result<Option<Row<u8>>, Refused> {
+    fn read(&mut self, alloc: Global, name: &str) -> Result<Option<Row<u8>>, Refused>
+        ensures found { ReadGives (Some (contents_of self.old.files)) name.now result }
+        ensures unchanged { Some (contents_of self.new.files) ≡ Some (contents_of self.old.files) }
+        ensures cause { HasCause (is_fault result) 0 0 }
+        ensures counted { self.new.calls ≡ one_more self.old.calls }
+        ensures listed { self.new.files ≡ self.old.files }
+    {
         self.calls = self.calls.saturating_add(1);
         read_entry(alloc, self.files.as_slice(), name)
     }
