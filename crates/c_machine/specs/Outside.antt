@@ -5,7 +5,7 @@ use Rattle.sl_run.specs.Run as run
 use Rattle.sl_run.specs.Outcome.{Outcome, printed, asked}
 use Rattle.sl_outside.specs.declared.source.Failed.{Failed}
 use Rattle.sl_outside.specs.Counts.{HasCause}
-use Rattle.sl_outside.specs.Sink.{SinkState, Prints}
+use Rattle.sl_outside.specs.Sink.{SinkState, Put, Prints}
 use Rattle.sl_outside.specs.Source.{SourceState, Reads}
 use Rattle.c_machine.specs.declared.ending.StepFault.{StepFault}
 use Rattle.c_machine.specs.declared.ending.StepFault.TheVariants as fault
@@ -87,6 +87,10 @@ IsTold (Some left) input = left ≡ input
 abbrev pub AsksInput : (input : List ℕ) → List Event → SourceState → SourceState → Result (Unit {0}) Failed → Type 0
 AsksInput input events before after result =
     (answers : List (Option ℕ)) × (length answers ≡ length (asked events)) × AreOf input answers × Reads answers before after result
+
+-- these bytes were put in order, each by a call of its own, and then this one was refused
+abbrev pub PrintsUpTo : List ℕ → ℕ → SinkState → SinkState → Type 0
+PrintsUpTo bytes byte before after = (between : SinkState) × Prints bytes before between (Ok tt) × Put (byte ∷ []) between after (Err (record {}))
 
 -- the events of a run begin with these
 abbrev pub BeginsWith : Outcome → List Event → Type 0

@@ -18,7 +18,7 @@ use Rattle.c_machine.specs.declared.machine.Standing.{Standing}
 use Rattle.c_machine.specs.declared.machine.Standing.TheVariants.{Going, Ended, Failed}
 use Rattle.c_machine.specs.declared.machine.Machine.{Machine}
 use Rattle.c_machine.specs.Meaning.{whole, first_state}
-use Rattle.c_machine.specs.Outside.{Deed, answers, Gives, ended_after, seen, Outside, Done, IsTold, AsksInput, BeginsWith, HasCauses}
+use Rattle.c_machine.specs.Outside.{Deed, answers, Gives, ended_after, seen, Outside, Done, IsTold, AsksInput, PrintsUpTo, BeginsWith, HasCauses}
 use Rattle.c_machine.specs.Stepped.{ending_of, with_left, Ahead, ahead, work, Faulted, Stepped}
 
 -- where a machine stands after a step that answered so
@@ -113,7 +113,7 @@ pub record Opened (run : List ℕ → Outcome) (turns : ℕ) (m : Machine) : Typ
 -- A run on this input, that is to come to this outcome, answered so. At an end it ended as the outcome says: all its bytes were put,
 -- the source was asked for its askings, and has left what the outcome leaves, where it tells that; and the machine has the turns left
 -- that the outcome has. Or what stands before an asking in it was done, and that asking failed; or what stands before a byte in it was
--- done, and that byte was refused; or, where memory ran out, some of it was done
+-- done, that byte was refused, and nothing more was asked for; or, where memory ran out, some of it was done
 abbrev pub Ran : Result End StepFault → List ℕ → Outcome → Configuration → Outside → Outside → Type 0
 Ran (Ok end) input whole m a b =
     (ending_of end ≡ whole.ending) × (m.left ≡ whole.left) × Prints (printed whole.events) a.sink b.sink (Ok tt)
@@ -122,7 +122,7 @@ Ran (Err fault.Input) input whole m a b =
     (events : List Event) × BeginsWith whole (events ++ run.Asks ∷ []) × Prints (printed events) a.sink b.sink (Ok tt) × AsksInput input events a.source b.source (Err (record {}))
 Ran (Err fault.Sink) input whole m a b =
     (events : List Event) × (byte : ℕ) × BeginsWith whole (events ++ run.Puts byte ∷ [])
-    × Prints (printed events ++ byte ∷ []) a.sink b.sink (Err (record {})) × AsksInput input events a.source b.source (Ok tt)
+    × PrintsUpTo (printed events) byte a.sink b.sink × AsksInput input events a.source b.source (Ok tt)
 Ran (Err fault.Mem) input whole m a b =
     (events : List Event) × BeginsWith whole events × Prints (printed events) a.sink b.sink (Ok tt) × AsksInput input events a.source b.source (Ok tt)
 
