@@ -6,6 +6,7 @@ use Rattle.std.proofs.lemmas.List.{take-append-drop}
 use Rattle.sl_outside.specs.declared.source.Failed.{Failed}
 use Rattle.sl_outside.specs.Counts.{Rose}
 use Rattle.sl_outside.specs.Sink.{IsPrefix, SinkState, Put, Prints}
+use Rattle.c_machine.specs.Outside.{PrintsUpTo}
 use Rattle.sl_tool.proofs.Noting.{gave, gave_prefix}
 
 -- one byte
@@ -24,6 +25,10 @@ pub prints_stop : (xs ys : List ℕ) (a b : SinkState) (failed : Failed) → Pri
 prints_stop [] ys a b failed h = absurd h
 prints_stop (x ∷ xs) ys a b failed (inl (m, put, rest)) = inl (m, put, prints_stop xs ys m b failed rest)
 prints_stop (x ∷ xs) ys a b failed (inr (e, put)) = inr (e, put)
+
+-- bytes that were put, and then one that was refused
+pub prints_refused : (bytes : List ℕ) (byte : ℕ) (a b : SinkState) → PrintsUpTo bytes byte a b → Prints (bytes ++ byte ∷ []) a b (Err (record {}))
+prints_refused bytes byte a b (between, prints, refused) = prints_then bytes (byte ∷ []) a between b (Err (record {})) prints (prints_one byte between b (Err (record {})) refused)
 
 -- the same bytes by another name
 pub prints_same : (a b : SinkState) (xs ys : List ℕ) (result : Result (Unit {0}) Failed) → xs ≡ ys → Prints xs a b result → Prints ys a b result

@@ -30,7 +30,7 @@ use Rattle.sl_run.specs.Outcome.{Outcome, printed}
 use Rattle.sl_plain.specs.Means.{plain_run}
 use Rattle.sl_tool.specs.Answer.{c_name, run_status, run_line}
 use Rattle.sl_tool.specs.Promise.{more_calls, reads_of, AskedUpTo, AskedForSome, AskedAndWrote}
-use Rattle.c_machine.specs.Outside.{AsksInput, BeginsWith}
+use Rattle.c_machine.specs.Outside.{AsksInput, PrintsUpTo, BeginsWith}
 use Rattle.sl_tool.specs.Outside.{IsTold}
 use Rattle.sl_tool.specs.Texts.{emitted_line, broken_line, no_file_line, folder_fault_line, input_fault_line, output_fault_line, no_memory_line, not_built_line}
 
@@ -120,7 +120,7 @@ Ran input run source source' out out' (Ok end) =
 Ran input run source source' out out' (Err fault.Input) =
     (events : List Event) × BeginsWith run (events ++ Asks ∷ []) × Prints (printed events) out out' (Ok tt) × AsksInput input events source source' (Err (record {}))
 Ran input run source source' out out' (Err fault.Sink) =
-    (events : List Event) × (byte : ℕ) × BeginsWith run (events ++ Puts byte ∷ []) × Prints (printed events ++ byte ∷ []) out out' (Err (record {})) × AsksInput input events source source' (Ok tt)
+    (events : List Event) × (byte : ℕ) × BeginsWith run (events ++ Puts byte ∷ []) × PrintsUpTo (printed events) byte out out' × AsksInput input events source source' (Ok tt)
 Ran input run source source' out out' (Err fault.Mem) =
     (events : List Event) × BeginsWith run events × Prints (printed events) out out' (Ok tt) × AsksInput input events source source' (Ok tt)
 
