@@ -1,6 +1,7 @@
 -- The first function begins.
-use Rattle.std.proofs.Common.{◌≡◌, ℕ, ℤ, List, [], ◌∷◌, ◌++◌, Bool, Option, Some, None, refl, sym, ap, subst, ◌∙◌, map, replicate, false, inl, inr}
-use Rattle.std.specs.Prelude.{◌⊎◌, slice_get, IfOk, Result, Ok, Err}
+use Rattle.std.proofs.Common.{◌≡◌, ℕ, ℤ, List, [], ◌∷◌, ◌++◌, Bool, Option, Some, None, refl, sym, ap, subst, ◌∙◌, map, replicate, false}
+use Rattle.std.specs.Prelude.{slice_get, IfOk, Result, Ok, Err}
+use Rattle.std.specs.Option.{option_and_then}
 use Rattle.sl_run.specs.Run.{Act, Trace, Step, Went, Over, step_then, ◌>>=◌, ◌>>◌, start}
 use Rattle.sl_run.specs.Outcome.{Outcome, outcome, whole_run}
 use Rattle.c_tree.specs.declared.tree.CFile.{CFile}
@@ -21,7 +22,7 @@ use Rattle.c_machine.specs.State as memory
 use Rattle.c_machine.specs.Meaning.{with_some, begin, meaning, called, given, leave, in_frame, exit_value, whole, first_state, program_run}
 use Rattle.c_machine.specs.Resume.{resume}
 use Rattle.c_machine.specs.Stepped.{ending_of, with_left, ahead}
-use Rattle.c_machine.specs.Ran.{stands_after, fresh, begun, HasBegun, Started, ComesTo, Opened}
+use Rattle.c_machine.specs.Ran.{stands_after, fresh, begun, first_function, HasBegun, Started, StandsFirst, ComesTo, Opened}
 
 module _ (program : Program) (turns : ℕ) where
   -- what the program does from its first function on
@@ -31,9 +32,13 @@ module _ (program : Program) (turns : ℕ) where
   whole_is : (found : Option ℕ) (t : Trace) → program.start ≡ found → whole program t (first_state program) ≡ with_some found (λ number. first_does number (slice_get program.functions number)) t (first_state program)
   whole_is found t e = ap (λ (found : Option ℕ). with_some found (λ number. first_does number (slice_get program.functions number)) t (first_state program)) e
 
+  -- which function that is
+  first_is : (found : Option ℕ) → program.start ≡ found → first_function program ≡ option_and_then (λ number. slice_get program.functions number) found
+  first_is found e = ap (λ (found : Option ℕ). option_and_then (λ number. slice_get program.functions number) found) e
+
   -- there is no first function
   pub no_start : program.start ≡ None → (m : Configuration) → m ≡ fresh program turns → Started (state.Ended (end.Stuck 0)) program turns m
-  no_start e m is = (is, λ t. whole_is None (with_left turns t) e)
+  no_start e m is = (is, first_is None e, λ t. whole_is None (with_left turns t) e)
 
   module _ (number : ℕ) (e : program.start ≡ Some number) where
     found_is : (found : Option Function) (t : Trace) → slice_get program.functions number ≡ found → whole program t (first_state program) ≡ first_does number found t (first_state program)
@@ -41,7 +46,7 @@ module _ (program : Program) (turns : ℕ) where
 
     -- or it isn't there
     pub no_function : slice_get program.functions number ≡ None → (m : Configuration) → m ≡ fresh program turns → Started (state.Ended (end.Stuck 0)) program turns m
-    no_function f m is = (is, λ t. found_is None (with_left turns t) f)
+    no_function f m is = (is, first_is (Some number) e ∙ f, λ t. found_is None (with_left turns t) f)
 
     ending : (gives : Bool) (x : Step memory.State Flow) → step_then (step_then (step_then x (given gives)) exit_value) leave ≡ step_then x (resume program gives [])
     unfolding resume
@@ -81,13 +86,14 @@ comes : (s : State) (program : Program) (turns : ℕ) (m : Configuration) → St
 unfolding program_run whole_run
 comes state.Going program turns m h input = ap outcome (h.1 (start input 0))
 comes (state.Ended end) program turns m h input =
-    ap (λ (m : Configuration). record { ending = ending_of end; events = []; rest = input; left = m.left }) h.0 ∙ sym (ap outcome (h.1 (start input 0)))
+    ap (λ (m : Configuration). record { ending = ending_of end; events = []; rest = input; left = m.left }) h.0 ∙ sym (ap outcome (h.2 (start input 0)))
 
 -- nothing was done with it
 
-firsts : (s : State) (program : Program) (turns : ℕ) (m : Configuration) → Started s program turns m → (m ≡ fresh m.program turns) ⊎ HasBegun m.program turns m
-firsts state.Going program turns m h = inr (subst (λ program. HasBegun program turns m) (sym (ap (λ (m : Configuration). m.program) h.0.is)) h.0)
-firsts (state.Ended end) program turns m h = inl (h.0 ∙ sym (ap (λ (m : Configuration). fresh m.program turns) h.0))
+firsts : (s : State) (program : Program) (turns : ℕ) (m : Configuration) → Started s program turns m → StandsFirst (stands_after (Ok s)) turns m
+firsts state.Going program turns m h = subst (λ program. HasBegun program turns m) (sym (ap (λ (m : Configuration). m.program) h.0.is)) h.0
+firsts (state.Ended end) program turns m h =
+    (h.0 ∙ sym (ap (λ (m : Configuration). fresh m.program turns) h.0), ap (λ (m : Configuration). first_function m.program) h.0 ∙ h.1)
 
 untaken : (s : State) (program : Program) (turns : ℕ) (m : Configuration) → Started s program turns m → m.left ≡ turns
 untaken state.Going program turns m h = ap (λ (m : Configuration). m.left) h.0.is
@@ -101,7 +107,7 @@ unasked (state.Ended end) program turns m h = ap (λ (m : Configuration). m.at_e
 pub opened : (s : State) (program : Program) (turns : ℕ) (m : Machine) → m.turns ≡ turns → m.standing ≡ stands_after (Ok s) → Started s program turns m.at → Opened (λ input. program_run program input turns) turns m
 opened s program turns m t standing h = record {
   whole = λ input. subst (λ standing. ComesTo standing m.at input (program_run program input turns)) (sym standing) (comes s program turns m.at h input);
-  first = firsts s program turns m.at h;
+  first = subst (λ standing. StandsFirst standing turns m.at) (sym standing) (firsts s program turns m.at h);
   left = untaken s program turns m.at h;
   at_end = unasked s program turns m.at h;
   allowed = t;

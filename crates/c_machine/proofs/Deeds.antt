@@ -11,7 +11,7 @@ use Rattle.sl_outside.specs.Counts.{HasCause}
 use Rattle.sl_outside.specs.Sink.{SinkState, Prints}
 use Rattle.sl_outside.specs.Source.{SourceState, NextGives, AreOf, Reads}
 use Rattle.c_machine.specs.Outside.{Deed, Puts, Gets, event_of, events_of, answers, Gives, taken, ended_after, rest_after, seen, Outside, Done, IsTold}
-use Rattle.c_machine.proofs.Printing.{prints_then, prints_same}
+use Rattle.sl_outside.proofs.Printing.{prints_then, prints_same}
 
 -- Answers -------------------------------------------------------------------------------------------------------------
 

@@ -17,7 +17,6 @@ pub mod Wrapping
 pub mod Lasts
 pub mod Arguments
 pub mod Bytes
-pub mod Printing
 pub mod Deeds
 pub mod Together
 pub mod Beginning

@@ -7,7 +7,7 @@ use Rattle.sl_run.specs.Run as run
 use Rattle.sl_run.specs.Outcome.{Outcome, outcome, ended, printed, asked, trace_of, BeginsWith}
 use Rattle.sl_outside.specs.declared.source.Failed.{Failed}
 use Rattle.sl_outside.specs.Counts.{HasCause}
-use Rattle.sl_outside.specs.Sink.{SinkState, Put, Prints}
+use Rattle.sl_outside.specs.Sink.{SinkState, Prints}
 use Rattle.sl_outside.specs.Source.{SourceState, Asked, AreOf, Reads}
 use Rattle.c_machine.specs.declared.ending.End.{End}
 use Rattle.c_machine.specs.declared.ending.State.{State}
@@ -19,7 +19,6 @@ use Rattle.c_machine.specs.State as memory
 use Rattle.c_machine.specs.Outside.{Deed, events_of, answers, Gives, ended_after, rest_after, seen, Outside, Done, AsksInput, HasCauses}
 use Rattle.c_machine.specs.Stepped.{ending_of, with_left, Ahead, ahead, work, Falls, IsNext, Faulted, Stepped}
 use Rattle.c_machine.specs.Ran.{Reaches, Finishes, Fails, RanFrom, Turned, RanOnSome}
-use Rattle.c_machine.proofs.Printing.{prints_then}
 use Rattle.c_machine.proofs.Deeds.{gives_then, ended_then, answers_then, seen_then, seen_none, done_none, done_then, as_many, reads_then, input_there, no_cause, prints_quiet, reads_quiet}
 use Rattle.c_machine.proofs.Executing.{ahead_adds}
 
@@ -161,10 +160,6 @@ module _ (before : Ahead) (m : Configuration) (deeds : List Deed) (input : List 
       let after = ahead_adds m (seen deeds (start input 0)) in
       (after.0, outcome_events (before (start input 0)) ∙ (ap (λ (x : Step memory.State ℤ). (trace_of x).events) same ∙ after.1))
 
--- bytes that were put, and then one that was refused
-refused_then : (bytes : List ℕ) (byte : ℕ) (a b c : SinkState) → Prints bytes a b (Ok tt) → Put (byte ∷ []) b c (Err (record {})) → Prints (bytes ++ byte ∷ []) a c (Err (record {}))
-refused_then bytes byte a b c h put = prints_then bytes (byte ∷ []) a b c (Err (record {})) h (inr (refl, put))
-
 -- answers, and then an asking that failed
 unanswered_then : (xs : List (Option ℕ)) (a b c : SourceState) → Reads xs a b (Ok tt) → Asked b c (Err (record {})) → Reads xs a c (Err (record {}))
 unanswered_then xs a b c h asked = subst (λ xs. Reads xs a c (Err (record {}))) (append-nil xs) (reads_then xs [] a b c (Err (record {})) h asked)
@@ -212,7 +207,7 @@ module _ (before : Ahead) (m : Configuration) (a b : Outside) where
           events_of r.deeds,
           h.failed.0.byte,
           begins_next before h.at r.deeds found.0 same (run.Puts h.failed.0.byte) h.failed.0.next,
-          refused_then (printed (events_of r.deeds)) h.failed.0.byte a.sink h.between.sink b.sink r.done.put h.failed.0.put,
+          (h.between.sink, r.done.put, h.failed.0.put),
           asks r.deeds found.0 a.source b.source (Ok tt) found.2 reads,
         ),
       )

@@ -1,9 +1,10 @@
 -- What the machine as a whole owes: that it stands where its steps left it, and what a run of it comes to.
-use Rattle.std.specs.Prelude.{◌≡◌, ◌⊎◌, ℕ, ◌+◌, List, [], ◌∷◌, ◌++◌, Result, Ok, Err, Some, None, IfSome, Bool, false, replicate, slice_get}
+use Rattle.std.specs.Prelude.{◌≡◌, ℕ, ◌+◌, List, [], ◌∷◌, ◌++◌, Result, Ok, Err, Option, Some, None, IfSome, Bool, false, replicate, slice_get}
+use Rattle.std.specs.Option.{option_and_then}
 use Rattle.sl_run.specs.Run.{Event, Trace, Over, start}
 use Rattle.sl_run.specs.Run as run
 use Rattle.sl_run.specs.Outcome.{Outcome, outcome, ended, printed, BeginsWith}
-use Rattle.sl_outside.specs.Sink.{Prints}
+use Rattle.sl_outside.specs.Sink.{Prints, PrintsUpTo}
 use Rattle.c_machine.specs.declared.program.Program.{Program}
 use Rattle.c_machine.specs.declared.program.Function.{Function}
 use Rattle.c_machine.specs.declared.ending.End.{End}
@@ -88,10 +89,14 @@ pub record HasBegun (program : Program) (turns : ℕ) (m : Configuration) : Type
   pub found : slice_get program.functions number ≡ Some function
   pub is : m ≡ begun program turns number function
 
+-- the function in which a run of a program begins, where there is one
+abbrev pub first_function : Program → Option Function
+first_function program = option_and_then (λ number. slice_get program.functions number) program.start
+
 -- the first function has begun, or there is none; nothing else was done
 abbrev pub Started : State → Program → ℕ → Configuration → Type 0
 Started state.Going program turns m = HasBegun program turns m × ((t : Trace) → ahead m t ≡ whole program (with_left turns t) (first_state program))
-Started (state.Ended end) program turns m = (m ≡ fresh program turns) × ((t : Trace) → whole program (with_left turns t) (first_state program) ≡ Over (ending_of end) (with_left turns t))
+Started (state.Ended end) program turns m = (m ≡ fresh program turns) × (first_function program ≡ None) × ((t : Trace) → whole program (with_left turns t) (first_state program) ≡ Over (ending_of end) (with_left turns t))
 
 -- Whole runs ----------------------------------------------------------------------------------------------------------
 
@@ -101,11 +106,18 @@ ComesTo Going m input whole = outcome (ahead m (start input 0)) ≡ whole
 ComesTo (Ended end) m input whole = record { ending = ending_of end; events = []; rest = input; left = m.left } ≡ whole
 ComesTo (Failed fault) m input whole = ⊥
 
+-- Where a machine stands before its first step. Its first function has begun, and nothing of it was done; it is at an end just where
+-- there is no first function
+abbrev pub StandsFirst : Standing → ℕ → Configuration → Type 0
+StandsFirst Going turns m = HasBegun m.program turns m
+StandsFirst (Ended end) turns m = (m ≡ fresh m.program turns) × (first_function m.program ≡ None)
+StandsFirst (Failed fault) turns m = ⊥
+
 -- a machine before its first step: nothing was done but that the first function of its program has begun, if there is one, and no
 -- turn was taken; on every input it is to come to the whole run
 pub record Opened (run : List ℕ → Outcome) (turns : ℕ) (m : Machine) : Type 0 where
   pub whole : (input : List ℕ) → ComesTo m.standing m.at input (run input)
-  pub first : (m.at ≡ fresh m.at.program turns) ⊎ HasBegun m.at.program turns m.at
+  pub first : StandsFirst m.standing turns m.at
   pub left : m.at.left ≡ turns
   pub at_end : m.at.at_end ≡ false
   pub allowed : m.turns ≡ turns
@@ -113,7 +125,7 @@ pub record Opened (run : List ℕ → Outcome) (turns : ℕ) (m : Machine) : Typ
 -- A run on this input, that is to come to this outcome, answered so. At an end it ended as the outcome says: all its bytes were put,
 -- the source was asked for its askings, and has left what the outcome leaves, where it tells that; and the machine has the turns left
 -- that the outcome has. Or what stands before an asking in it was done, and that asking failed; or what stands before a byte in it was
--- done, and that byte was refused; or, where memory ran out, some of it was done
+-- done, that byte was refused, and nothing more was asked for; or, where memory ran out, some of it was done
 abbrev pub Ran : Result End StepFault → List ℕ → Outcome → Configuration → Outside → Outside → Type 0
 Ran (Ok end) input whole m a b =
     (ending_of end ≡ whole.ending) × (m.left ≡ whole.left) × Prints (printed whole.events) a.sink b.sink (Ok tt)
@@ -122,7 +134,7 @@ Ran (Err fault.Input) input whole m a b =
     (events : List Event) × BeginsWith whole (events ++ run.Asks ∷ []) × Prints (printed events) a.sink b.sink (Ok tt) × AsksInput input events a.source b.source (Err (record {}))
 Ran (Err fault.Sink) input whole m a b =
     (events : List Event) × (byte : ℕ) × BeginsWith whole (events ++ run.Puts byte ∷ [])
-    × Prints (printed events ++ byte ∷ []) a.sink b.sink (Err (record {})) × AsksInput input events a.source b.source (Ok tt)
+    × PrintsUpTo (printed events) byte a.sink b.sink × AsksInput input events a.source b.source (Ok tt)
 Ran (Err fault.Mem) input whole m a b =
     (events : List Event) × BeginsWith whole events × Prints (printed events) a.sink b.sink (Ok tt) × AsksInput input events a.source b.source (Ok tt)
 

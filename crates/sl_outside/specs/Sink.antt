@@ -40,3 +40,7 @@ Prints [] before after (Err failed) = ⊥
 Prints (byte ∷ bytes) before after result =
     ((between : SinkState) × Put (byte ∷ []) before between (Ok tt) × Prints bytes between after result)
     ⊎ (IsErr result × Put (byte ∷ []) before after (Err (record {})))
+
+-- bytes were put in order, each by a call of its own, and then this one was refused
+abbrev pub PrintsUpTo : List ℕ → ℕ → SinkState → SinkState → Type 0
+PrintsUpTo bytes byte before after = (between : SinkState) × Prints bytes before between (Ok tt) × Put (byte ∷ []) between after (Err (record {}))

@@ -7,7 +7,7 @@ use Rattle.sl_outside.specs.declared.source.Failed.{Failed}
 use Rattle.sl_outside.specs.Counts.{Rose, HasCause}
 use Rattle.sl_outside.specs.Folder.{Contents, FolderState}
 use Rattle.sl_outside.specs.Source.{SourceState}
-use Rattle.sl_outside.specs.Sink.{IsPrefix, SinkState, Put, Tried, Prints}
+use Rattle.sl_outside.specs.Sink.{IsPrefix, SinkState, Put, Tried, Prints, PrintsUpTo}
 use Rattle.sl_run.specs.Run.{Event, Puts, Asks, Ending, Halt, TurnsSpent, Stuck}
 use Rattle.sl_run.specs.Outcome.{Outcome, printed, BeginsWith}
 use Rattle.sl_run.proofs.Puts.{printed-append}
@@ -39,6 +39,7 @@ use Rattle.sl_words.proofs.Reading.{command_of_reading, reading_of_command, no_r
 use Rattle.sl_tool.proofs.Sources.{missing_found, missing_is_none, sources_found, found_accepted, found_broken, found_program, found_no_program}
 use Rattle.sl_tool.proofs.Answering.{answer_usage, answer_broken, answer_no_file, answer_not_built, answer_plain}
 use Rattle.sl_tool.proofs.Noting.{each_some, prefix_whole, prefix_none, gave, gave_prefix, try_calm, tell_ends, tell_calm, tell_grows, try_grows, stays_grown}
+use Rattle.sl_outside.proofs.Printing.{prints_refused}
 use Rattle.sl_tool.proofs.Printing.{printed_whole, printed_prefix, printed_calm, printed_rose}
 use Rattle.sl_tool.proofs.Told.{told_files, files_told, input_of, input_told, told_is, still_told}
 use Rattle.sl_tool.proofs.Asking.{asked_all}
@@ -632,15 +633,16 @@ module _ (words : List (List ℕ)) (folder folder' : FolderState) (source source
           )
 
       -- `out` failed
-      out_promise : (events : List Event) (byte : ℕ) → BeginsWith run (events ++ Puts byte ∷ []) → Prints (printed events ++ byte ∷ []) out out' (Err (record {})) → AsksInput input events source source' (Ok tt) → Tried output_fault_line note note' → Promise words before after SinkFault
-      out_promise events byte begins_so prints asks tried =
+      out_promise : (events : List Event) (byte : ℕ) → BeginsWith run (events ++ Puts byte ∷ []) → PrintsUpTo (printed events) byte out out' → AsksInput input events source source' (Ok tt) → Tried output_fault_line note note' → Promise words before after SinkFault
+      out_promise events byte begins_so refused asks tried =
+          let prints = prints_refused (printed events) byte out out' refused in
           let failed = printed_rose (printed events ++ byte ∷ []) out out' (record {}) prints in
           let shorter : BeginsWith run events = (Puts byte ∷ begins_so.0, begins_so.1 ∙ append_assoc events (Puts byte ∷ []) begins_so.0) in
           sink_promise command_run is_read told.files input told.is_told is_left (asks_calm input events source source' asks)
           (stands_front events (printed events ++ byte ∷ []) (Err (record {})) (Ok tt) shorter (front_printed events (byte ∷ []) (Puts byte ∷ []) begins_so (printed-append events (Puts byte ∷ []))) prints asks)
           (subst (λ answer. Excused before after answer.status) (sym answers) (run_yields before after run.ending (inr (inr failed.0))))
           failed.0 (failed.1, failed.2) cause (runs_only SinkFault)
-          (inr (program, holds, all_asked, inl (events, byte, begins_so, prints, asks)))
+          (inr (program, holds, all_asked, inl (events, byte, begins_so, refused, asks)))
           tried
 
       -- memory ran out in the run

@@ -6,7 +6,7 @@ use Rattle.sl_outside.specs.declared.folder.Refused.TheVariants as refused
 use Rattle.sl_outside.specs.declared.source.Failed.{Failed}
 use Rattle.sl_outside.specs.Folder.{Contents, GoesOn, FolderState}
 use Rattle.sl_outside.specs.Source.{SourceState}
-use Rattle.sl_outside.specs.Sink.{SinkState, Put, Tried, Prints}
+use Rattle.sl_outside.specs.Sink.{SinkState, Put, Tried, Prints, PrintsUpTo}
 use Rattle.c_tree.specs.Text.{CText}
 use Rattle.c_write.specs.Lined.{lined}
 use Rattle.sl_tool.specs.declared.stop.Stop.{Stop}
@@ -120,7 +120,7 @@ Ran input run source source' out out' (Ok end) =
 Ran input run source source' out out' (Err fault.Input) =
     (events : List Event) × BeginsWith run (events ++ Asks ∷ []) × Prints (printed events) out out' (Ok tt) × AsksInput input events source source' (Err (record {}))
 Ran input run source source' out out' (Err fault.Sink) =
-    (events : List Event) × (byte : ℕ) × BeginsWith run (events ++ Puts byte ∷ []) × Prints (printed events ++ byte ∷ []) out out' (Err (record {})) × AsksInput input events source source' (Ok tt)
+    (events : List Event) × (byte : ℕ) × BeginsWith run (events ++ Puts byte ∷ []) × PrintsUpTo (printed events) byte out out' × AsksInput input events source source' (Ok tt)
 Ran input run source source' out out' (Err fault.Mem) =
     (events : List Event) × BeginsWith run events × Prints (printed events) out out' (Ok tt) × AsksInput input events source source' (Ok tt)
 

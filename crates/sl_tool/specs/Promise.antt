@@ -9,7 +9,7 @@ use Rattle.sl_outside.specs.declared.folder.Refused.TheVariants as refused
 use Rattle.sl_outside.specs.Counts.{one_more}
 use Rattle.sl_outside.specs.Folder.{Contents, FolderCall, ReadCall, WriteCall, GoesOn, WriteGives, FolderState}
 use Rattle.c_machine.specs.Outside.{AsksInput}
-use Rattle.sl_outside.specs.Sink.{IsPrefix, SinkState, Put, Tried, Prints}
+use Rattle.sl_outside.specs.Sink.{IsPrefix, SinkState, Put, Tried, Prints, PrintsUpTo}
 use Rattle.sl_run.specs.Run.{Event, Puts, Asks}
 use Rattle.sl_run.specs.Run as ending
 use Rattle.sl_run.specs.Outcome.{Outcome, printed, BeginsWith}
@@ -277,8 +277,8 @@ pub record Done (input : List ℕ) (events : List Event) (before after : Outside
   pub got : AsksInput input events before.input after.input (Ok tt)
 
 -- How far a run went, by the status. To its end, and then what it did was all done. Or up to an asking that failed: what stands
--- before that in the run was done. Or up to a byte that `out` refused; or its line was refused by `note`, and then all was done. Or,
--- where memory ran out, up to anything
+-- before that in the run was done. Or up to a byte that `out` refused: what stands before that was done, and nothing more was asked
+-- for; or its line was refused by `note`, and then all was done. Or, where memory ran out, up to anything
 abbrev pub Went : (input : List ℕ) → Outcome → Outside → Outside → Status → Type 0
 Went input run before after (Exit value) = Done input run.events before after
 Went input run before after Halted = Done input run.events before after
@@ -288,7 +288,7 @@ Went input run before after InputFault =
     (events : List Event) × BeginsWith run (events ++ Asks ∷ []) × Prints (printed events) before.out after.out (Ok tt) × AsksInput input events before.input after.input (Err (record {}))
 Went input run before after SinkFault =
     ((events : List Event) × (byte : ℕ) × BeginsWith run (events ++ Puts byte ∷ [])
-    × Prints (printed events ++ byte ∷ []) before.out after.out (Err (record {})) × AsksInput input events before.input after.input (Ok tt))
+    × PrintsUpTo (printed events) byte before.out after.out × AsksInput input events before.input after.input (Ok tt))
     ⊎ (NoteRose before after × Done input run.events before after)
 Went input run before after Memory = (events : List Event) × BeginsWith run events × Done input events before after
 Went input run before after other = ⊥
