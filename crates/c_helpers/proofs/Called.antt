@@ -1,5 +1,5 @@
 -- What calls of the inline functions give.
-use Rattle.std.proofs.Common.{◌≡◌, ◌≢◌, List, [], ◌∷◌, true, refl, sym, ap, subst, ◌∙◌, arith, codes}
+use Rattle.std.proofs.Common.{◌≡◌, ◌≢◌, List, [], ◌∷◌, true, refl, sym, ap, subst, ◌∙◌, arith, eq-eqb, length, codes}
 use Rattle.std.specs.List.{IsDistinct}
 use Rattle.std.specs.Str.{bytes_eq}
 use Rattle.std.proofs.lemmas.List.Elements.{All-from_recursion}
@@ -13,13 +13,14 @@ use Rattle.c_tree.specs.declared.tree.CExpr.{CExpr}
 use Rattle.c_tree.specs.declared.tree.CExpr.TheVariants.{Binary, Compare}
 use Rattle.c_tree.specs.declared.tree.CBinary.TheVariants.{Add, Sub, Div, Rem}
 use Rattle.c_tree.specs.declared.tree.CStmt.{CStmt}
+use Rattle.c_tree.proofs.Running.{running}
 use Rattle.c_tree.specs.Meaning.{is_int64}
 use Rattle.c_helpers.specs.Functions.{constant, named, greatest, least, minus_one, give, if_else, sum_fits, difference_fits, product_fits, quotient_fits, remainder, helper_functions}
-use Rattle.c_helpers.specs.Laws.{Gives, Laws}
+use Rattle.c_helpers.specs.Laws.{Gives, Undefined, Laws}
 use Rattle.c_helpers.proofs.Frame.{scope_in, two, Yields, Returns, yields_constant, yields_a, yields_b, yields_comparison, yields_sum, yields_difference, yields_quotient, yields_remainder, yields_greatest, yields_least, yields_minus_one, returns_value, returns_by, gives_returned}
 use Rattle.c_helpers.proofs.Sums.{Bounded, bounds, least_less, least_less_tells, greatest_less, greatest_less_tells, greatest_more, greatest_more_tells, least_more, least_more_tells}
 use Rattle.c_helpers.proofs.Standing.{all_formed, all_nest_little, all_keep}
-use Rattle.c_helpers.proofs.Printed.{prints, digit_reached}
+use Rattle.c_helpers.proofs.Printed.{prints, puts_digit, digit_reached}
 use Rattle.c_helpers.proofs.Quotients.{not_zero, is_same, is_other, greatest_by, greatest_by_tells, least_by, least_by_tells, least_by_tells_second, greatest_by_negative, greatest_by_negative_tells, product_by_zero, quotient_by_minus_one, other_quotient, remainder_fits, remainder_by_minus_one}
 
 module _ (file : CFile) (a b : ℤ) where
@@ -134,6 +135,14 @@ module _ (file : CFile) (a b : ℤ) where
           (λ other. returns_value (scope_in file) (two a b) (Binary Rem (named (codes "a")) (named (codes "b"))) (int_rem a b)
           (yields_remainder (scope_in file) (two a b) (named (codes "a")) (named (codes "b")) a b a_is b_is (not_zero b some) (other_quotient a b a_bounded some other) (remainder_fits a b a_bounded))))
 
+-- by 0
+module _ (file : CFile) (a : ℤ) where
+  gives_quotient_by_zero : Gives file quotient_fits (a ∷ pos 0 ∷ []) (pos 1)
+  gives_quotient_by_zero call t memory = simp (running, eq-eqb (length memory.frames) (length memory.frames) refl)
+
+  undefined_by_zero : Undefined file remainder (a ∷ pos 0 ∷ [])
+  undefined_by_zero call t memory = simp (running, eq-eqb (length memory.frames) (length memory.frames) refl)
+
 -- the functions are inline
 are_inline : All (λ (function : CFun). function.inline ≡ true) helper_functions
 unfolding helper_functions
@@ -156,7 +165,10 @@ laws = record {
   difference = gives_difference;
   product = gives_product;
   quotient = gives_quotient;
+  quotient_by_zero = gives_quotient_by_zero;
   rest = gives_remainder;
+  rest_by_zero = undefined_by_zero;
+  digit = puts_digit;
   print = prints;
   reached = digit_reached;
 }

@@ -6,10 +6,7 @@ use Rattle.std.proofs.lemmas.Fmt.{decimal_step, decimal_by_steps}
 use Rattle.std.proofs.lemmas.Nat.{le-div}
 use Rattle.std.proofs.Math.Nat.{div-le_self, div-lt_iff_lt-mul, div-div-eq-div-mul}
 use Rattle.c_helpers.specs.Functions.{powers}
-
--- the digit of n at the power p, where n has one there
-abbrev pub digit_at : ℕ → ℕ → List ℕ
-digit_at n p = if nat_le p n then (48 + (n / p) % 10) ∷ [] else []
+use Rattle.c_helpers.specs.Laws.{digit_at}
 
 -- its digits at some powers
 abbrev pub digits_at : ℕ → List ℕ → List ℕ

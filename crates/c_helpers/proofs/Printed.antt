@@ -1,5 +1,5 @@
 -- What calls of the functions that print do.
-use Rattle.std.proofs.Common.{◌≡◌, ℕ, zero, suc, ◌+◌, ◌/◌, ◌%◌, ◌<◌, ◌≤◌, ◌^◌, List, [], ◌∷◌, ◌++◌, map, length, Bool, true, false, None, nat_le, refl, sym, ap, subst, ◌∙◌, arith, append_assoc, append-nil, eq-eqb, codes}
+use Rattle.std.proofs.Common.{◌≡◌, ℕ, zero, suc, ◌+◌, ◌/◌, ◌%◌, ◌<◌, ◌≤◌, ◌-◌, ◌^◌, List, [], ◌∷◌, ◌++◌, map, length, Bool, true, false, None, nat_le, refl, sym, ap, subst, ◌∙◌, arith, append_assoc, append-nil, eq-eqb, codes}
 use Rattle.std.specs.Prelude.{ℤ, pos, negsuc, neg_ℤ, ◌-ℤ◌, int_div, int_rem, int_le, int_lt}
 use Rattle.std.specs.Fmt.{decimal}
 use Rattle.std.proofs.lemmas.Bool.Decides.{nat_tests}
@@ -21,11 +21,11 @@ use Rattle.sl_num.specs.Comparing.{truth}
 use Rattle.c_tree.specs.Meaning.{Callees, meaning, block, is_int64, begin_inline, inline_callees, body}
 use Rattle.c_tree.proofs.Running.{const_runs, read_runs, negate_runs, assign_runs, call_runs, if_runs, if_else_runs, put_runs}
 use Rattle.c_helpers.specs.Functions.{constant, named, put_digit, digit, call_digit, powers, print}
-use Rattle.c_helpers.specs.Laws.{Reaches, Prints}
+use Rattle.c_helpers.specs.Laws.{Reaches, PutsDigit, Prints, digit_at}
 use Rattle.c_helpers.proofs.Frame.{within, scope_in, two, Yields, yields_constant, yields_a, yields_b, yields_comparison, yields_difference, yields_quotient, yields_remainder}
 use Rattle.c_helpers.proofs.Sums.{bounds, bounded}
 use Rattle.c_helpers.proofs.Quotients.{not_zero}
-use Rattle.c_helpers.proofs.Decimal.{digit_at, digits_at, decimal_is}
+use Rattle.c_helpers.proofs.Decimal.{digits_at, decimal_is}
 
 -- a run with these bytes put
 abbrev said : List ℕ → Trace → Trace
@@ -79,7 +79,7 @@ module _ (scope : Scope) (vars : List Tree) where
 abbrev frame_of : ℕ → ℕ → List Tree
 frame_of k p = two (neg_ℤ (pos k)) (pos p)
 
-module _ (file : CFile) (call : Callees) (k p : ℕ) (short : k ≤ 2 ^ 63) (positive : 0 < p) (least : p ≤ 10 ^ 18) where
+module _ (file : CFile) (call : Callees) (k p : ℕ) (short : k ≤ 2 ^ 63) (positive : 0 < p) (least : p ≤ 2 ^ 63 - 1) where
   -- the test whether -k has a digit there
   tested : Yields (scope_in file) (frame_of k p) (Compare LessEqual (named (codes "a")) (Negate (named (codes "b")))) (truth (int_le (neg_ℤ (pos k)) (neg_ℤ (pos p))))
   tested =
@@ -113,6 +113,10 @@ module _ (file : CFile) (call : Callees) (k p : ℕ) (short : k ≤ 2 ^ 63) (pos
   digit_runs : (t : Trace) (memory : Memory) → (begin_inline digit (frame_of k p) >> body file digit call) t memory ≡ Went None (said (digit_at k p) t) memory
   digit_runs t memory = digit_by (nat_le p k) refl t memory
 
+-- on all these numbers
+pub puts_digit : (file : CFile) (number power : ℕ) → number ≤ 2 ^ 63 → 0 < power → power ≤ 2 ^ 63 - 1 → PutsDigit file number power
+puts_digit file number power short positive least call t memory = digit_runs file call number power short positive least t memory
+
 -- what `sl_print` can name
 abbrev print_scope : CFile → Scope
 print_scope file = scope_of file print
@@ -135,7 +139,7 @@ module _ (file : CFile) (call : Callees) (reach : Reaches file call) (k : ℕ) (
   says_call : (p : ℕ) → 0 < p → p ≤ 10 ^ 18 → Says (print_scope file) (one (neg_ℤ (pos k))) call (call_digit p) (digit_at k p)
   says_call p positive least =
       let only = yields_only file (neg_ℤ (pos k)) in
-      let runs = digit_runs file reach.deeper k p short positive least in
+      let runs = digit_runs file reach.deeper k p short positive (omega arith) in
       let called : (t : Trace) (memory : Memory) → call (codes "sl_digit") (frame_of k p) t memory ≡ Went None (said (digit_at k p) t) memory = λ t memory. ap (λ act. act t memory) (reach.reaches (frame_of k p)) ∙ runs t memory in
       record { says = λ t memory. simp (call_runs, only.yields, const_runs, called) }
 

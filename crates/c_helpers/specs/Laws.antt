@@ -1,15 +1,15 @@
 -- What calls of the inline functions give.
-use Rattle.std.specs.Prelude.{◌≡◌, ◌≢◌, ℕ, ◌≤◌, ℤ, pos, ◌+ℤ◌, ◌-ℤ◌, ◌*ℤ◌, int_div, int_rem, IsTrue, true, List, [], ◌∷◌, ◌++◌, None, Some, All, map, codes}
+use Rattle.std.specs.Prelude.{◌≡◌, ◌≢◌, ℕ, ◌+◌, ◌/◌, ◌%◌, ◌<◌, ◌≤◌, ◌-◌, ◌^◌, ℤ, pos, neg_ℤ, ◌+ℤ◌, ◌-ℤ◌, ◌*ℤ◌, int_div, int_rem, nat_le, IsTrue, true, if◌then◌else◌, List, [], ◌∷◌, ◌++◌, None, Some, All, map, codes}
 use Rattle.std.specs.Fmt.{signed_decimal}
 use Rattle.std.specs.List.{IsDistinct}
 use Rattle.std.specs.Str.{bytes_eq}
-use Rattle.sl_run.specs.Run.{Puts, Trace, Went, ◌>>◌}
+use Rattle.sl_run.specs.Run.{Stuck, Puts, Trace, Went, Over, ◌>>◌}
 use Rattle.c_tree.specs.declared.tree.CFile.{CFile}
 use Rattle.c_tree.specs.declared.tree.CFun.{CFun}
 use Rattle.c_tree.specs.WellFormed.{IsFunction, stmt_depth}
 use Rattle.c_tree.specs.Rules.{BreaksInside}
-use Rattle.c_tree.specs.Memory.{Tree, Memory, Number}
 use Rattle.sl_num.specs.Comparing.{truth}
+use Rattle.c_tree.specs.Memory.{Tree, Memory, Number, owner_of}
 use Rattle.c_tree.specs.Meaning.{Callees, is_int64, begin_inline, inline_callees, body}
 use Rattle.c_helpers.specs.Functions.{sum_fits, difference_fits, product_fits, quotient_fits, remainder, digit, print, helper_functions}
 
@@ -18,6 +18,23 @@ abbrev pub Gives : CFile → CFun → List ℤ → ℤ → Type 0
 Gives file function numbers value =
     (call : Callees) (t : Trace) (memory : Memory)
     → (begin_inline function (map Number numbers) >> body file function call) t memory ≡ Went (Some value) t memory
+
+-- a call on these numbers is undefined, in the function above whose frame it is made, and puts nothing before that
+abbrev pub Undefined : CFile → CFun → List ℤ → Type 0
+Undefined file function numbers =
+    (call : Callees) (t : Trace) (memory : Memory)
+    → (begin_inline function (map Number numbers) >> body file function call) t memory ≡ Over (Stuck (owner_of memory.frames)) t
+
+-- the digit of a number at a power of ten, where it has one there
+abbrev pub digit_at : (number power : ℕ) → List ℕ
+digit_at number power = if nat_le power number then (48 + (number / power) % 10) ∷ [] else []
+
+-- A call of `sl_digit` on minus a number and on a power of ten puts the digit of the number there, whatever calls in it would do. It
+-- takes no turn, and leaves memory as it was
+abbrev pub PutsDigit : CFile → (number power : ℕ) → Type 0
+PutsDigit file number power =
+    (call : Callees) (t : Trace) (memory : Memory)
+    → (begin_inline digit (Number (neg_ℤ (pos number)) ∷ Number (pos power) ∷ []) >> body file digit call) t memory ≡ Went None (record t { events = t.events ++ map Puts (digit_at number power) }) memory
 
 -- calls by the name `sl_digit` are calls of that function
 pub record Reaches (file : CFile) (call : Callees) : Type 0 where
@@ -49,7 +66,12 @@ pub record Laws : Type 0 where
   pub difference : (file : CFile) (a b : ℤ) → IsTrue (is_int64 a) → IsTrue (is_int64 b) → Gives file difference_fits (a ∷ b ∷ []) (truth (is_int64 (a -ℤ b)))
   pub product : (file : CFile) (a b : ℤ) → IsTrue (is_int64 a) → IsTrue (is_int64 b) → Gives file product_fits (a ∷ b ∷ []) (truth (is_int64 (a *ℤ b)))
   pub quotient : (file : CFile) (a b : ℤ) → IsTrue (is_int64 a) → IsTrue (is_int64 b) → b ≢ pos 0 → Gives file quotient_fits (a ∷ b ∷ []) (truth (is_int64 (int_div a b)))
+  -- by 0 it is defined too, so that what is undefined is the division alone
+  pub quotient_by_zero : (file : CFile) (a : ℤ) → Gives file quotient_fits (a ∷ pos 0 ∷ []) (pos 1)
   pub rest : (file : CFile) (a b : ℤ) → IsTrue (is_int64 a) → IsTrue (is_int64 b) → b ≢ pos 0 → Gives file remainder (a ∷ b ∷ []) (int_rem a b)
+  -- by 0 it is undefined, so who calls it has tested the divisor
+  pub rest_by_zero : (file : CFile) (a : ℤ) → Undefined file remainder (a ∷ pos 0 ∷ [])
   pub print : (file : CFile) (a : ℤ) → IsTrue (is_int64 a) → Prints file a
   -- behind `sl_digit` it is called by its name
   pub reached : (file : CFile) (earlier : List CFun) → Reaches file (inline_callees file (digit ∷ earlier))
+  pub digit : (file : CFile) (number power : ℕ) → number ≤ 2 ^ 63 → 0 < power → power ≤ 2 ^ 63 - 1 → PutsDigit file number power
