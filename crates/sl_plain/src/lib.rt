@@ -1,4 +1,4 @@
-//! Plain files: the reader of one line, the reader of a whole file, and the core of its program.
+//! Plain files: their reader, and the core of a program.
 #![tactic(auto)]
 
 mod line;
@@ -7,8 +7,7 @@ mod plain_file;
 mod reading;
 mod tree;
 
-pub use line::{Atom, Condition, Kind, Line, Right};
+pub use line::{Atom, Condition, Kind, Right};
 pub use lowering::lower;
 pub use plain_file::read_plain;
-pub use reading::{indentation, read_line};
 pub use tree::{Plain, Stmt};

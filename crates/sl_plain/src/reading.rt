@@ -1,6 +1,5 @@
 // How one line is read: the word at its front says which form it has, if any.
-ghost use Rattle.std.specs.Prelude.{◌≡◌, ◌≢◌, [], ◌∷◌, ◌++◌, ℕ, List, Some, None, IfOk, IfSome, IfNone, replicate, option_and_then};
-ghost use Rattle.sl_plain.specs.Lines.{spelled, IsLine};
+ghost use Rattle.std.specs.Prelude.{◌≡◌, [], Some, None, IfOk, IfSome, IfNone, option_and_then};
 ghost use Rattle.sl_plain.specs.LineReading.{between, condition_in, front_of, line_with, declaration_of, cut_kind, print_of, while_of, for_of, counting_of, closing_of, assignment_of};
 ghost use Rattle.sl_plain.specs.PlainReading.{indented_line_of};
 
@@ -20,25 +19,6 @@ use crate::reading::rights::{read_condition, read_right};
 use crate::reading::words::{Front, front_of};
 use sl_text::{Mem, Row};
 use std::alloc::Global;
-
-/// How many spaces the bytes begin with, and what stands behind them.
-pub fn indentation(bytes: &[u8]) -> (usize, &[u8])
-    ensures spaces { bytes.now ≡ replicate result.0 32 ++ result.1.now }
-    ensures all { (more : List ℕ) → result.1.now ≢ 32 ∷ more }
-{
-    let spaces = space_len(bytes);
-    (spaces, &bytes[spaces..])
-}
-
-/// The line that these bytes are, without indentation, or None where they are no line of a plain file.
-pub fn read_line(alloc: Global, bytes: &[u8]) -> Result<Option<Line>, Mem>
-    ensures line { IfOk result (λ found. IfSome found (λ line. IsLine line × (spelled line ≡ bytes.now))) }
-    ensures exact { IfOk result
-        (λ found. (line : Line) → IsLine line → spelled line ≡ bytes.now → found ≡ Some line) }
-{
-    let (word, rest) = cut_word(bytes);
-    read_behind(alloc, word, rest)
-}
 
 /// The line that these bytes are, behind their spaces.
 pub fn read_indented(alloc: Global, bytes: &[u8]) -> Result<Option<Line>, Mem>

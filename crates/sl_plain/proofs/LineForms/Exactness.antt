@@ -1,9 +1,7 @@
 -- The reader of lines finds just the lines that the bytes spell.
-use Rattle.std.proofs.Common.{◌≡◌, ℕ, List, [], ◌++◌, append_assoc, Bool, true, false, Option, Some, option_map, option_and_then, refl, sym, ap, ap₂, ◌∙◌, subst, IfOk, IfSome, codes}
-use Rattle.std.specs.Prelude.{Result, Ok, Err}
+use Rattle.std.proofs.Common.{◌≡◌, ℕ, List, [], ◌++◌, append_assoc, Bool, true, false, Some, option_map, option_and_then, refl, sym, ap, ◌∙◌, subst, IfSome, codes}
 use Rattle.std.specs.List.{list_all}
 use Rattle.std.specs.Char.{is_ascii_alphanumeric}
-use Rattle.std.proofs.lemmas.Option.{same_Some}
 use Rattle.sl_plain.specs.declared.line.Kind.{Kind}
 use Rattle.sl_plain.specs.declared.line.Right.{Right}
 use Rattle.sl_plain.specs.declared.line.Line.{Line}
@@ -103,24 +101,3 @@ line_there (Halt text) is =
 line_there (Return atom) is =
     line_at (codes "return") 32 (spelled_atom atom) refl refl
     ∙ ap (option_map Return) (fronted_there IsAtom spelled_atom atom_of (codes " ") atom (atom_there atom is))
-
--- what is read by the word at the front is read of the bytes
-read_so : (bytes word rest : List ℕ) (found : Option Line) → word ≡ word_of bytes → rest ≡ behind_word bytes → found ≡ line_with (front_of word) word rest → found ≡ line_of bytes
-read_so bytes word rest found is behind read = read ∙ ap₂ (λ w r. line_with (front_of w) w r) is behind
-
--- what is read is a line that is spelled so
-pub soundly : {E : Type 0} (bytes word rest : List ℕ) (answer : Result (Option Line) E) → word ≡ word_of bytes → rest ≡ behind_word bytes
-    → IfOk answer (λ found. found ≡ line_with (front_of word) word rest) → IfOk answer (λ found. IfSome found (λ line. IsLine line × (spelled line ≡ bytes)))
-soundly bytes word rest (Err e) is behind read = tt
-soundly bytes word rest (Ok found) is behind read =
-    subst (λ o. IfSome o (λ line. IsLine line × (spelled line ≡ bytes))) (sym (read_so bytes word rest found is behind read)) (line_found bytes)
-
--- and it is the only line that is spelled so
-pub exactly : {E : Type 0} (bytes word rest : List ℕ) (answer : Result (Option Line) E) → word ≡ word_of bytes → rest ≡ behind_word bytes
-    → IfOk answer (λ found. found ≡ line_with (front_of word) word rest) → IfOk answer (λ found. (line : Line) → IsLine line → spelled line ≡ bytes → found ≡ Some line)
-exactly bytes word rest (Err e) is behind read = tt
-exactly bytes word rest (Ok found) is behind read = λ line well same. read_so bytes word rest found is behind read ∙ ap line_of (sym same) ∙ line_there line well
-
--- lines that are spelled alike are the same
-pub same_line : (line other : Line) → IsLine line → IsLine other → spelled line ≡ spelled other → line ≡ other
-same_line line other is are same = same_Some line other (sym (line_there line is) ∙ ap line_of same ∙ line_there other are)

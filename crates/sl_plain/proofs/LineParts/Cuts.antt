@@ -1,5 +1,5 @@
 -- The parts into which bytes are cut.
-use Rattle.std.proofs.Common.{◌≡◌, ℕ, suc, ◌+◌, ◌<◌, ◌≢◌, List, [], ◌∷◌, ◌++◌, append_assoc, length, replicate, not, take, drop, take_at, drop_at, take-append-drop, Bool, true, false, cond, Option, Some, None, option_map, refl, sym, ap, ap₂, ◌∙◌, arith, eqb-true, get_or, length-append, lt-ltb}
+use Rattle.std.proofs.Common.{◌≡◌, ℕ, suc, ◌+◌, ◌<◌, List, [], ◌∷◌, ◌++◌, append_assoc, length, replicate, not, take, drop, take_at, drop_at, take-append-drop, Bool, true, false, cond, Option, Some, None, option_map, refl, sym, ap, ap₂, ◌∙◌, arith, eqb-true, get_or, length-append, lt-ltb}
 use Rattle.std.specs.Prelude.{◌==◌, nat_lt}
 use Rattle.std.specs.Char.{is_ascii_alphanumeric}
 use Rattle.std.specs.List.{prefix_len, position, position_or_len, list_all, list_any}
@@ -29,17 +29,6 @@ spaces_and_rest (byte ∷ bytes) = at (byte == 32) refl (spaces_and_rest bytes)
         let len : suc (prefix_len is_space bytes) ≡ 1 + prefix_len is_space bytes = omega arith in
         ap₂ (λ first rest. first ∷ rest) (eqb-true byte 32 e) more ∙ ap (λ n. replicate n 32 ++ drop n (byte ∷ bytes)) len
     at false e more = refl
-
--- no space stands behind them
-pub no_space_more : (bytes more : List ℕ) → drop (prefix_len is_space bytes) bytes ≢ 32 ∷ more
-no_space_more [] more e = cc
-no_space_more (byte ∷ bytes) more e = at (byte == 32) refl (no_space_more bytes more) e
-  where
-    at : (t : Bool) → (byte == 32) ≡ t → drop (prefix_len is_space bytes) bytes ≢ 32 ∷ more → drop (cond t (1 + prefix_len is_space bytes) 0) (byte ∷ bytes) ≢ 32 ∷ more
-    at true e other same =
-        let len : suc (prefix_len is_space bytes) ≡ 1 + prefix_len is_space bytes = omega arith in
-        other (ap (λ n. drop n (byte ∷ bytes)) len ∙ same)
-    at false e other same = cc
 
 -- the word at the front of a word and a byte that is no letter or digit
 pub word_there : (word : List ℕ) (byte : ℕ) (more : List ℕ) → list_all is_ascii_alphanumeric word ≡ true → is_ascii_alphanumeric byte ≡ false → prefix_len is_ascii_alphanumeric (word ++ byte ∷ more) ≡ length word
