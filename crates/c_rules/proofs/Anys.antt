@@ -1,5 +1,5 @@
 -- Whether some element is so, and what stands in lists.
-use Rattle.std.proofs.Common.{◌≡◌, ℕ, zero, suc, ◌+◌, ◌<◌, ◌≤◌, List, [], ◌∷◌, ◌++◌, Bool, Decides, refl, sym, subst, ap, ◌∙◌, arith, length, get_or, take, drop, Contains, All}
+use Rattle.std.proofs.Common.{◌≡◌, ℕ, zero, suc, ◌+◌, ◌<◌, ◌≤◌, List, [], ◌∷◌, ◌++◌, Bool, Decides, sym, subst, ap, ◌∙◌, arith, length, get_or, take, drop, Contains, All}
 use Rattle.std.specs.List.{list_any}
 use Rattle.std.proofs.lemmas.List.{take_all, take_more}
 use Rattle.std.proofs.Math.Seq.{split_at}
@@ -13,15 +13,7 @@ any_holds p P each xs = (
   λ (x, among, holds). list_any-from_Any p xs (among.0, x, among.1, among.2, (each x).1 holds),
 )
 
--- nothing is in the empty list
-pub in_none : {X : Type 0} (x : X) → ¬ Contains [] x
-in_none x among = let less = among.1 in absurd (omega arith)
-
--- the first element is in a list
-pub first_in : {X : Type 0} (x : X) (xs : List X) → Contains (x ∷ xs) x
-first_in x xs = (0, omega arith, refl)
-
--- and what is in the rest
+-- what is in the rest of a list is in it
 pub behind_in : {X : Type 0} (x y : X) (xs : List X) → Contains xs x → Contains (y ∷ xs) x
 behind_in x y xs among = Contains-append_right (y ∷ []) xs x among
 

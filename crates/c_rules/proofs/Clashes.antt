@@ -12,7 +12,8 @@ use Rattle.std.proofs.lemmas.Slice.Eq.{bytes_eq-Decides}
 use Rattle.c_tree.specs.Words.{reserved_words}
 use Rattle.c_tree.specs.Rules.{NamesClash}
 use Rattle.c_rules.specs.Names.{is_reserved}
-use Rattle.c_rules.proofs.Anys.{any_holds, in_none, first_in, in_cases, around, one_more}
+use Rattle.c_tree.proofs.Lists.{in_none, first_in}
+use Rattle.c_rules.proofs.Anys.{any_holds, in_cases, around, one_more}
 
 -- names that don't clash
 pub record AreFine (names : List (List ℕ)) : Type 0 where

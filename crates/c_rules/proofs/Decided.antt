@@ -20,7 +20,8 @@ use Rattle.c_tree.specs.Rules.{var_names, BreaksLocalNames, IsDeclared, NamesRea
 use Rattle.c_rules.specs.Least.{told, least, least_in, IsLeast}
 use Rattle.c_rules.specs.Types.{is_void, same_type, is_other, are_other, is_no_word, kind_in, reads_strange}
 use Rattle.c_rules.specs.Bodies.{is_named, misfits, result_misfits, is_declared, is_var, is_inline_among, of_expr, of_place, of_target, of_name, of_callee, is_counter, miscounts, rule_of, of_stmt, of_block}
-use Rattle.c_rules.proofs.Anys.{any_holds, in_none, first_in, in_cases}
+use Rattle.c_tree.proofs.Lists.{in_none, first_in}
+use Rattle.c_rules.proofs.Anys.{any_holds, in_cases}
 use Rattle.c_rules.proofs.Lookups.{kind_is}
 use Rattle.c_rules.proofs.Holds.{never, same_type_holds, in_flat, flat_in, any_named, is_void_holds, is_other_holds, are_other_holds, not_holds, is_no_word_holds, PlaceUnknown, place_holds, ExprUnknown, expr_holds, misfits_holds, ResultMisfits, result_holds, local_holds}
 use Rattle.c_rules.proofs.Leasts.{is_told, is_least, is_like, is_where, is_in}

@@ -19,7 +19,8 @@ use Rattle.c_tree.specs.Scope.{Scope, variable}
 use Rattle.c_tree.specs.Rules.{var_names, NamesRead, typed, type_of_place, is_word, ArgumentsMisfit}
 use Rattle.c_rules.specs.Types.{is_void, same_type, is_other, are_other, is_no_word, is_strange, reads_strange}
 use Rattle.c_rules.specs.Bodies.{is_var, misfits, result_misfits}
-use Rattle.c_rules.proofs.Anys.{any_holds, in_none, first_in, behind_in, in_cases}
+use Rattle.c_tree.proofs.Lists.{in_none, first_in}
+use Rattle.c_rules.proofs.Anys.{any_holds, behind_in, in_cases}
 
 -- Lists -------------------------------------------------------------------------------------------------------------------
 

@@ -3,7 +3,8 @@ use Rattle.std.proofs.Common.{◌≡◌, ◌⊎◌, ℕ, List, [], ◌∷◌, Bo
 use Rattle.std.specs.Prelude.{min}
 use Rattle.std.proofs.lemmas.Bool.{cases_lt, false≢true}
 use Rattle.c_rules.specs.Least.{told, least, least_in, IsLeast}
-use Rattle.c_rules.proofs.Anys.{in_none, first_in, behind_in, in_cases}
+use Rattle.c_tree.proofs.Lists.{in_none, first_in}
+use Rattle.c_rules.proofs.Anys.{behind_in, in_cases}
 
 -- a rule that is broken or isn't
 pub is_told : (P : Type 0) (rule : ℕ) (broken : Bool) → Decides broken P → IsLeast (λ other. (other ≡ rule) × P) (told rule broken)

@@ -15,7 +15,8 @@ use Rattle.c_tree.specs.declared.tree.CExpr.TheVariants.{Read, Compare}
 use Rattle.c_tree.specs.declared.tree.CStmt.TheVariants.{Assign, Call, If, Loop, Break, Return, Get, Halt}
 use Rattle.c_helpers.specs.Functions.{constant}
 use Rattle.sl_frames.specs.Names.{place_of, called_name}
-use Rattle.sl_frames.specs.Translated.{number_expr, temporary, operate, code_of, with_value, text_of, put_code, else_of, joined, stmts_of, needed, greatest, needs}
+use Rattle.sl_core.specs.Sound.{greatest}
+use Rattle.sl_frames.specs.Translated.{number_expr, temporary, operate, code_of, with_value, text_of, put_code, else_of, joined, stmts_of, needed, needs}
 use Rattle.sl_frames.proofs.Layers.{code_layer, text_layer, stmts_layer, needs_layer}
 
 -- The C of expressions ------------------------------------------------------------------------------------------------

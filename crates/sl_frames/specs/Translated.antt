@@ -2,7 +2,7 @@
 -- variables are the core's and then temporaries. An operation is tested before it is computed, by the inline functions of
 -- c_helpers, so that no C step is undefined: where it gives no number of the type, `sl_halt` ends the run.
 use Rattle.std.specs.Prelude.{ℕ, zero, suc, ◌-◌, ◌^◌, ℤ, pos, negsuc, List, [], ◌∷◌, ◌++◌, true, false, nat_lt, max, map, length, Option, None, Some, option_map, slice_get, if◌then◌else◌, codes}
-use Rattle.std.specs.List.{fold, flat_map}
+use Rattle.std.specs.List.{flat_map}
 use Rattle.sl_num.specs.declared.arithmetic.Op.{Op}
 use Rattle.sl_num.specs.declared.arithmetic.Op.TheVariants.{Add, Sub, Mul, Div, Rem, Neg}
 use Rattle.sl_num.specs.declared.comparing.Comparison.TheVariants.{Equal}
@@ -12,6 +12,7 @@ use Rattle.sl_core.specs.declared.tree.CoreStmt.{CoreStmt, CoreStmt-F, fold-Core
 use Rattle.sl_core.specs.declared.tree.CoreStmt.TheOpen as stmt
 use Rattle.sl_core.specs.declared.tree.CoreExpr.{CoreExpr, CoreExpr-F, fold-CoreExpr}
 use Rattle.sl_core.specs.declared.tree.CoreExpr.TheOpen as expr
+use Rattle.sl_core.specs.Sound.{greatest}
 use Rattle.c_tree.specs.declared.tree.CFile.{CFile}
 use Rattle.c_tree.specs.declared.tree.CType.TheVariants.{Int}
 use Rattle.c_tree.specs.declared.tree.CVar.{CVar}
@@ -151,9 +152,6 @@ stmts_of core s = fold-CoreStmt (List CStmt) (stmts_step core) s
 -- how many temporaries an expression needs: one for each operation in it
 abbrev pub needed : CoreExpr → ℕ
 needed e = (code_of e 0).free
-
-abbrev pub greatest : List ℕ → ℕ
-greatest numbers = fold max 0 numbers
 
 -- how many temporaries a statement needs, given how many those in it need
 abbrev pub needs_step : CoreStmt-F ℕ → ℕ

@@ -5,7 +5,8 @@ ghost use Rattle.std.specs.Prelude.{◌≡◌, [], ◌∷◌, ◌++◌, Some, ma
 ghost use Rattle.std.specs.List.{flat_map};
 ghost use Rattle.c_tree.specs.declared.tree.CStmt.TheVariants.{Assign, Call, If, Loop, Break, Return, Get, Halt};
 ghost use Rattle.sl_frames.specs.Names.{place_of, called_name};
-ghost use Rattle.sl_frames.specs.Translated.{with_value, put_byte, print, text_of, put_code, else_of, stmts_of, needed, greatest, needs};
+ghost use Rattle.sl_core.specs.Sound.{greatest};
+ghost use Rattle.sl_frames.specs.Translated.{with_value, put_byte, print, text_of, put_code, else_of, stmts_of, needed, needs};
 
 use crate::expressions::{text_of, translate};
 use crate::names::{called_name, place_of};

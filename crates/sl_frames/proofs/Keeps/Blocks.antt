@@ -14,8 +14,7 @@ use Rattle.sl_core.specs.declared.tree.CoreExpr.TheOpen as expr
 use Rattle.sl_core.specs.declared.tree.CoreStmt.{CoreStmt, CoreStmt-F, ind-CoreStmt, map-CoreStmt, roll-CoreStmt}
 use Rattle.sl_core.specs.declared.tree.CoreStmt.TheOpen as stmt
 use Rattle.sl_core.specs.Meaning.{root_of}
-use Rattle.sl_core.specs.Sound.{type_has, kind_of, is_number, is_number_of, place_has, type_of_place, result_fits, fits_step, fits, is_source_place, expr_range_step, expr_in_range, stmt_range_step, stmt_in_range, expr_depth, stmt_depth_step, stmt_depth}
-use Rattle.sl_core.specs.Sound as sound
+use Rattle.sl_core.specs.Sound.{type_has, kind_of, is_number, is_number_of, place_has, type_of_place, result_fits, fits_step, fits, is_source_place, expr_range_step, expr_in_range, stmt_range_step, stmt_in_range, expr_depth, stmt_depth_step, stmt_depth, greatest}
 use Rattle.c_tree.specs.declared.tree.CArg.TheVariants.{Value}
 use Rattle.c_tree.specs.declared.tree.CFile.{CFile}
 use Rattle.c_tree.specs.declared.tree.CFun.{CFun}
@@ -31,7 +30,7 @@ use Rattle.c_helpers.proofs.Keeping.{inside, TargetGood, StmtGood}
 use Rattle.c_helpers.proofs.Composing.{constant_good, assign_good, call_good, return_good, put_good, get_good, break_good, halt_good, loop_good, if_good, if_else_good, deeper}
 use Rattle.sl_frames.specs.Names.{variable_name, place_of, function_name, called_name}
 use Rattle.sl_frames.specs.Promise.{HasOneType}
-use Rattle.sl_frames.specs.Translated.{code_of, put_byte, print, with_value, text_step, text_of, put_code, else_of, joined, stmts_step, stmts_of, needed, greatest, needs_step, needs}
+use Rattle.sl_frames.specs.Translated.{code_of, put_byte, print, with_value, text_step, text_of, put_code, else_of, joined, stmts_step, stmts_of, needed, needs_step, needs}
 use Rattle.sl_frames.proofs.Layers.{text_layer, stmts_layer, needs_layer}
 use Rattle.sl_core.proofs.Layers.{expr_range_layer, fits_layer, stmt_range_layer, stmt_depth_layer}
 use Rattle.sl_frames.proofs.Keeps.Tests.{some_then, test_passed, place_is, is_something, left_is, halt_is}
@@ -193,7 +192,7 @@ module _ (core : Core) (types : HasOneType core) (source : CoreFun) (file : CFil
       (stmt_depth_step (stmt.If test (map stmt_depth (map first chosen)) (map stmt_depth (map first other))))
       (stmts_step core (stmt.If test (map (stmts_of core) (map first chosen)) (map (stmts_of core) (map first other))))
   if_keeps test chosen other fit range need =
-      let depth = max (expr_depth test) (max (sound.greatest (map stmt_depth (map first chosen))) (sound.greatest (map stmt_depth (map first other)))) in
+      let depth = max (expr_depth test) (max (greatest (map stmt_depth (map first chosen))) (greatest (map stmt_depth (map first other)))) in
       let fits_two = and_parts (is_number (kind_of core source test) && list_all (λ fit. fit) (map (fits core source) (map first chosen))) (list_all (λ fit. fit) (map (fits core source) (map first other))) fit in
       let fits_one = and_parts (is_number (kind_of core source test)) (list_all (λ fit. fit) (map (fits core source) (map first chosen))) fits_two.0 in
       let range_two = and_parts (expr_in_range test && list_all (λ fit. fit) (map stmt_in_range (map first chosen))) (list_all (λ fit. fit) (map stmt_in_range (map first other))) range in
@@ -211,7 +210,7 @@ module _ (core : Core) (types : HasOneType core) (source : CoreFun) (file : CFil
       → Claim (fits_step core source (stmt.Loop (map (fits core source) (map first stmts)))) (stmt_range_step (stmt.Loop (map stmt_in_range (map first stmts)))) (needs_step (stmt.Loop (map needs (map first stmts))))
       (stmt_depth_step (stmt.Loop (map stmt_depth (map first stmts)))) (stmts_step core (stmt.Loop (map (stmts_of core) (map first stmts))))
   loop_keeps stmts fit range need =
-      let depth = sound.greatest (map stmt_depth (map first stmts)) in
+      let depth = greatest (map stmt_depth (map first stmts)) in
       let block = joined (map (stmts_of core) (map first stmts)) in
       alone (4 + (1 + depth)) (Loop block)
       (deeper file before function (1 + (4 + depth)) (4 + (1 + depth)) (omega arith) (Loop block)

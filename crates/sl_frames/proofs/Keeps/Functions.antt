@@ -6,7 +6,7 @@ use Rattle.std.proofs.lemmas.List.{map-append, length-map, get_or-map}
 use Rattle.std.proofs.lemmas.List.Elements.{All-nil, All-cons, All-append, All-contains, All-from_recursion, All-weaker, Contains-append_left, Contains-append_right}
 use Rattle.sl_core.specs.declared.tree.Core.{Core}
 use Rattle.sl_core.specs.declared.tree.CoreFun.{CoreFun}
-use Rattle.sl_core.specs.Sound.{IsFunction, IsSound, strays, stmt_depth}
+use Rattle.sl_core.specs.Sound.{IsFunction, IsSound, strays, stmt_depth, greatest}
 use Rattle.c_tree.specs.declared.tree.CFile.{CFile}
 use Rattle.c_tree.specs.declared.tree.CVar.{CVar}
 use Rattle.c_tree.specs.declared.tree.CFun.{CFun}
@@ -26,7 +26,7 @@ use Rattle.c_helpers.proofs.Standing.{Contains-map}
 use Rattle.c_helpers.proofs.Called.{laws}
 use Rattle.sl_frames.specs.Names.{variable_name, temporary_name, function_name}
 use Rattle.sl_frames.specs.Promise.{HasOneType}
-use Rattle.sl_frames.specs.Translated.{declared, named_from, vars_of, ended, proto_of, function_of, of_each, stmts_of, greatest, needs}
+use Rattle.sl_frames.specs.Translated.{declared, named_from, vars_of, ended, proto_of, function_of, of_each, stmts_of, needs}
 use Rattle.sl_frames.proofs.Keeps.Distinct.{DiffersFrom, distinct_append, all_named, distinct_named, is_named}
 use Rattle.sl_frames.proofs.Keeps.Names.{variable_is_name, temporary_is_name, variable_is_free, temporary_is_free, variables_differ, temporaries_differ, variable_no_temporary, is_mangled, mangled_begins, mangled_is_name, main_is_name}
 use Rattle.sl_frames.proofs.Keeps.Tests.{by_test, of_all}

@@ -6,10 +6,9 @@ use Rattle.std.proofs.lemmas.List.Elements.{All-nil, All-cons, All-map, All-weak
 use Rattle.sl_core.specs.declared.tree.CoreExpr.{CoreExpr}
 use Rattle.sl_core.specs.declared.tree.CoreStmt.{CoreStmt, CoreStmt-F, ind-CoreStmt, map-CoreStmt, roll-CoreStmt}
 use Rattle.sl_core.specs.declared.tree.CoreStmt.TheOpen as stmt
-use Rattle.sl_core.specs.Sound.{deepest, expr_depth, stmt_depth_step, stmt_depth}
-use Rattle.sl_core.specs.Sound as sound
+use Rattle.sl_core.specs.Sound.{deepest, expr_depth, stmt_depth_step, stmt_depth, greatest}
 use Rattle.c_helpers.proofs.Composing.{deepest_below}
-use Rattle.sl_frames.specs.Translated.{needed, greatest, needs_step, needs}
+use Rattle.sl_frames.specs.Translated.{needed, needs_step, needs}
 use Rattle.sl_frames.proofs.Layers.{needs_layer}
 use Rattle.sl_core.proofs.Layers.{stmt_depth_layer}
 use Rattle.sl_frames.proofs.Keeps.Codes.{code_grows}
@@ -51,7 +50,7 @@ stmt_few s = ind-CoreStmt IsFew (λ x y same. subst (λ z. IsFew (roll-CoreStmt 
     layer (stmt.Store path e) = via (stmt.Store path e) (few e)
     layer (stmt.If test chosen other) =
         via (stmt.If test (map first chosen) (map first other))
-        (let depth = max (expr_depth test) (max (sound.greatest (map stmt_depth (map first chosen))) (sound.greatest (map stmt_depth (map first other)))) in
+        (let depth = max (expr_depth test) (max (greatest (map stmt_depth (map first chosen))) (greatest (map stmt_depth (map first other)))) in
         let tested = few test in
         let a = power (1 + expr_depth test) (1 + depth) (omega arith) in
         let b = power depth (1 + depth) (omega arith) in
@@ -60,7 +59,7 @@ stmt_few s = ind-CoreStmt IsFew (λ x y same. subst (λ z. IsFew (roll-CoreStmt 
         omega arith)
     layer (stmt.Loop stmts) =
         via (stmt.Loop (map first stmts))
-        (let depth = sound.greatest (map stmt_depth (map first stmts)) in
+        (let depth = greatest (map stmt_depth (map first stmts)) in
         let more = power depth (1 + depth) (omega arith) in
         let few_below = deepest_below (2 ^ depth) (map needs (map first stmts)) (block_few depth stmts (all_below depth (map stmt_depth (map first stmts)) (omega arith))) in
         omega arith)

@@ -13,7 +13,7 @@ use Rattle.sl_core.specs.Memory as source
 use Rattle.sl_core.specs.Memory.{Value, Number}
 use Rattle.sl_run.specs.Statements.{Next, Broke, Returned, then_on, in_order}
 use Rattle.sl_core.specs.Meaning as means
-use Rattle.sl_core.specs.Sound.{stmt_in_range, fits, IsFunction, IsSound}
+use Rattle.sl_core.specs.Sound.{stmt_in_range, fits, IsFunction, IsSound, greatest}
 use Rattle.c_tree.specs.declared.tree.CFile.{CFile}
 use Rattle.c_tree.specs.declared.tree.CFun.{CFun}
 use Rattle.c_tree.specs.declared.tree.CStmt.{CStmt}
@@ -27,7 +27,7 @@ use Rattle.c_tree.specs.Meaning.{Flow, block, given, begin, leave, in_frame, bod
 use Rattle.c_helpers.specs.Functions.{helper_functions}
 use Rattle.sl_frames.specs.Names.{variable_name, temporary_name, function_name}
 use Rattle.sl_frames.specs.Promise.{HasOneType}
-use Rattle.sl_frames.specs.Translated.{stmts_of, needs, greatest, named_from, vars_of, of_each, function_of, c_of}
+use Rattle.sl_frames.specs.Translated.{stmts_of, needs, named_from, vars_of, of_each, function_of, c_of}
 use Rattle.sl_frames.proofs.Keeps.Needs.{body_few}
 use Rattle.sl_frames.proofs.Keeps.Tests.{of_all}
 use Rattle.sl_frames.proofs.Meaning.Frames.{Beside, memory_with, Where, block_append}

@@ -11,9 +11,9 @@ use Rattle.sl_core.specs.declared.tree.CoreExpr.TheOpen as expr
 use Rattle.sl_core.specs.Memory as source
 use Rattle.sl_core.specs.Memory.{Value, Bytes}
 use Rattle.sl_core.specs.Meaning.{expr_step, evaluate}
-use Rattle.sl_core.specs.Sound.{Kind, NumberOf, kind_step, kind_of, expr_range_step, expr_in_range}
+use Rattle.sl_core.specs.Sound.{Kind, NumberOf, kind_step, kind_of, expr_range_step, expr_in_range, greatest}
 use Rattle.sl_core.proofs.Layers.{evaluate_layer, kind_layer, expr_range_layer}
-use Rattle.sl_frames.specs.Translated.{text_step, text_of, greatest}
+use Rattle.sl_frames.specs.Translated.{text_step, text_of}
 use Rattle.sl_frames.proofs.Layers.{text_layer}
 use Rattle.std.proofs.lemmas.Bool.{and_parts}
 use Rattle.sl_frames.proofs.Meaning.Kinds.{IsNumeric}

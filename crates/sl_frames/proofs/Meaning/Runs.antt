@@ -12,7 +12,7 @@ use Rattle.sl_core.specs.Memory as source
 use Rattle.sl_core.specs.Memory.{Value}
 use Rattle.sl_core.specs.Meaning as means
 use Rattle.sl_core.specs.Meaning.{core_run}
-use Rattle.sl_core.specs.Sound.{IsSound}
+use Rattle.sl_core.specs.Sound.{IsSound, greatest}
 use Rattle.c_tree.specs.declared.tree.CFile.{CFile}
 use Rattle.c_tree.specs.declared.tree.CFun.{CFun}
 use Rattle.c_tree.specs.Bytes.{charge}
@@ -22,7 +22,7 @@ use Rattle.c_tree.specs.Memory.{Tree, live}
 use Rattle.c_tree.specs.Meaning.{leave, in_frame, functions, with_some, enter, charge_of, run_callees, exit_value, begin_start, program, first_memory, number_of, c_run}
 use Rattle.c_helpers.specs.Functions.{helper_functions}
 use Rattle.sl_frames.specs.Promise.{HasOneType}
-use Rattle.sl_frames.specs.Translated.{needs, greatest, of_each, function_of, c_of}
+use Rattle.sl_frames.specs.Translated.{needs, of_each, function_of, c_of}
 use Rattle.sl_frames.proofs.Meaning.Following.{IsStuck, ResultLike}
 use Rattle.sl_frames.proofs.Meaning.Calling.{number_is, function_at}
 use Rattle.sl_frames.proofs.Meaning.Functions.{Memories, These, Started, CallsAlike, exits_alike, these_by, here, below_ours, below_theirs, functions_alike, inside_alike}

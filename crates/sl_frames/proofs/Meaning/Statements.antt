@@ -24,7 +24,7 @@ use Rattle.sl_core.specs.Memory.{Value, Number, Bytes}
 use Rattle.sl_run.specs.Statements.{Next, Broke, Returned, then_on, after_round, gotten, in_order}
 use Rattle.sl_core.specs.Meaning as means
 use Rattle.sl_core.specs.Meaning.{root_of, store, with_number, is_true, printed_form, evaluate}
-use Rattle.sl_core.specs.Sound.{type_has, is_number, is_number_of, type_of_place, kind_of, result_fits, call_fits, fits_step, fits, expr_in_range, stmt_range_step, stmt_in_range}
+use Rattle.sl_core.specs.Sound.{type_has, is_number, is_number_of, type_of_place, kind_of, result_fits, call_fits, fits_step, fits, expr_in_range, stmt_range_step, stmt_in_range, greatest}
 use Rattle.sl_core.proofs.Layers as source_layers
 use Rattle.c_tree.specs.declared.tree.CExpr.{CExpr}
 use Rattle.c_tree.specs.declared.tree.CStmt.{CStmt}
@@ -33,7 +33,7 @@ use Rattle.c_tree.specs.Memory as c
 use Rattle.c_tree.specs.Memory.{Tree}
 use Rattle.c_tree.specs.Meaning.{Flow, is_zero, write_number, store_result, evaluate as c_evaluate, meaning, block}
 use Rattle.c_tree.proofs.Running.{const_runs, call_runs, call_to_runs, if_runs, if_else_runs, loop_runs, break_runs, return_runs, put_runs, get_runs, halt_runs}
-use Rattle.sl_frames.specs.Translated.{greatest, code_of, put_byte, print, with_value, text_of, put_code, else_of, joined, stmts_step, stmts_of, needs_step, needs}
+use Rattle.sl_frames.specs.Translated.{code_of, put_byte, print, with_value, text_of, put_code, else_of, joined, stmts_step, stmts_of, needs_step, needs}
 use Rattle.sl_frames.specs.Names.{variable_name, place_of, function_name, called_name}
 use Rattle.sl_frames.specs.Promise.{HasOneType}
 use Rattle.sl_frames.proofs.Layers.{stmts_layer, needs_layer}

@@ -1,6 +1,7 @@
 use Rattle.std.proofs.Common.{◌≡◌, map, take}
 use Rattle.std.specs.List.{flat_map}
-use Rattle.sl_frames.specs.Translated.{stmts_of, needs, greatest}
+use Rattle.sl_core.specs.Sound.{greatest}
+use Rattle.sl_frames.specs.Translated.{stmts_of, needs}
 use Rattle.sl_frames.proofs.statements.+statements.Given as goal
 
 -- the C of the statements so far, and how many temporaries they need
