@@ -12,4 +12,6 @@ mod plain;
 #[cfg(test)]
 mod rows;
 #[cfg(test)]
+mod spelling;
+#[cfg(test)]
 mod words;
