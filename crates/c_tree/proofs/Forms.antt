@@ -19,7 +19,7 @@ use Rattle.c_tree.proofs.Small.{signed, unsigned, give, start_alone}
 pub tokens_of_file :
     map (λ token. token.spelling) (cflat file)
     ≡ codes "struct" ∷ codes "s" ∷ codes "{"
-    ∷ codes "int64_t" ∷ codes "a" ∷ codes "[" ∷ codes "1048576" ∷ codes "]" ∷ codes ";"
+    ∷ codes "int64_t" ∷ codes "a" ∷ codes "[" ∷ codes "2097151" ∷ codes "]" ∷ codes ";"
     ∷ codes "union" ∷ codes "{" ∷ codes "int64_t" ∷ codes "a" ∷ codes ";" ∷ codes "int64_t" ∷ codes "b" ∷ codes ";" ∷ codes "}" ∷ codes "u" ∷ codes ";"
     ∷ codes "}" ∷ codes ";"
     ∷ codes "static" ∷ codes "int64_t" ∷ codes "g" ∷ codes ";"
@@ -28,7 +28,7 @@ pub tokens_of_file :
     ∷ codes "static" ∷ codes "void" ∷ codes "e" ∷ codes "(" ∷ codes "void" ∷ codes ")" ∷ codes ";"
     ∷ codes "static" ∷ codes "inline" ∷ codes "void" ∷ codes "h" ∷ codes "(" ∷ codes "int64_t" ∷ codes "x" ∷ codes ")" ∷ codes "{"
     ∷ codes "int64_t" ∷ codes "n" ∷ codes ";"
-    ∷ codes "for" ∷ codes "(" ∷ codes "n" ∷ codes "=" ∷ codes "INT64_C" ∷ codes "(" ∷ codes "0" ∷ codes ")" ∷ codes ";" ∷ codes "n" ∷ codes "<" ∷ codes "2" ∷ codes ";" ∷ codes "n" ∷ codes "++" ∷ codes ")" ∷ codes "{"
+    ∷ codes "for" ∷ codes "(" ∷ codes "n" ∷ codes "=" ∷ codes "INT64_C" ∷ codes "(" ∷ codes "0" ∷ codes ")" ∷ codes ";" ∷ codes "n" ∷ codes "<" ∷ codes "16777216" ∷ codes ";" ∷ codes "n" ∷ codes "++" ∷ codes ")" ∷ codes "{"
     ∷ codes "sl_put" ∷ codes "(" ∷ codes "x" ∷ codes ")" ∷ codes ";" ∷ codes "}" ∷ codes "}"
     ∷ codes "static" ∷ codes "inline" ∷ codes "void" ∷ codes "i" ∷ codes "(" ∷ codes "void" ∷ codes ")" ∷ codes "{"
     ∷ codes "h" ∷ codes "(" ∷ codes "INT64_C" ∷ codes "(" ∷ codes "65" ∷ codes ")" ∷ codes ")" ∷ codes ";" ∷ codes "}"

@@ -2,7 +2,7 @@
 -- which one calls the other with an argument, a function whose result is stored and which stands behind its caller, an `if` with
 -- `else` and one without, a counted loop in an inline function, a loop that is left by a `break` in an `if`, a byte of the input, and a
 -- halt.
-use Rattle.std.proofs.Common.{◌≡◌, ◌≢◌, ◌⊎◌, ℕ, ◌^◌, ◌<◌, ◌≤◌, List, [], ◌∷◌, ◌++◌, map, true, false, Option, Some, None, refl, sym, subst, ap, ◌∙◌, inl, inr, arith, All, Contains, codes, bytes_eq}
+use Rattle.std.proofs.Common.{◌≡◌, ◌≢◌, ◌⊎◌, ℕ, ◌-◌, ◌^◌, ◌<◌, ◌≤◌, List, [], ◌∷◌, ◌++◌, map, true, false, Option, Some, None, refl, sym, subst, ap, ◌∙◌, inl, inr, arith, All, Contains, codes, bytes_eq}
 use Rattle.std.specs.Prelude.{option_map}
 use Rattle.std.specs.List.{AllByRecursion, count_by, list_any, IsDistinct}
 use Rattle.std.proofs.lemmas.List.Elements.{All-nil, All-cons, All-contains, All-from_recursion}
@@ -31,7 +31,7 @@ use Rattle.c_tree.specs.Rules as rules
 use Rattle.c_tree.proofs.Variants.{leaves_are, types_are, actions_are, ends_are, strays_are, recounts_are}
 use Rattle.c_tree.proofs.Names.{names_differ, none_of, no_clash as no_clash_of}
 use Rattle.c_tree.proofs.Lists.{in_none, first_in, second_in, of_one, AllPlaces, at_place}
-use Rattle.c_tree.proofs.Small.{word, proto_of, function_with, inline_with, start_with, signed, unsigned, named, give, bare_call, set, member_of}
+use Rattle.c_tree.proofs.Small.{word, proto_of, function_with, inline_with, start_with, signed, unsigned, named, give, bare_call, set, member_of, struct_alone}
 
 -- Typed functions -----------------------------------------------------------------------------------------------------
 
@@ -271,14 +271,14 @@ module _ (file : CFile) (before : List CFun) (function : CFun) where
 abbrev union_member : CMember
 union_member = record { name = codes "u"; kind = Void; count = None; choice = word (codes "a") ∷ word (codes "b") ∷ [] }
 
--- the struct of an array and this union
+-- the struct of an array and this union, of just 2 ^ 24 bytes
 abbrev struct : CStruct
-struct = record { name = codes "s"; members = member_of (codes "a") (Some (2 ^ 20)) ∷ union_member ∷ [] }
+struct = record { name = codes "s"; members = member_of (codes "a") (Some (2 ^ 21 - 1)) ∷ union_member ∷ [] }
 
--- an inline function that puts its parameter twice, `for (n = INT64_C(0); n < 2; n++) { sl_put(x); }`
+-- an inline function that puts its parameter 2 ^ 24 times, `for (n = INT64_C(0); n < 16777216; n++) { sl_put(x); }`
 abbrev low : CFun
 low =
-    record (inline_with (codes "h") Void (Count (codes "n") (codes "n") 2 (codes "n") (Put (named (codes "x")) ∷ []) ∷ [])) {
+    record (inline_with (codes "h") Void (Count (codes "n") (codes "n") (2 ^ 24) (codes "n") (Put (named (codes "x")) ∷ []) ∷ [])) {
       params = word (codes "x") ∷ [];
       vars = word (codes "n") ∷ [];
     }
@@ -369,7 +369,7 @@ MemberKeeps member = (¬ NamesClash (var_names member.choice)) × ((count : ℕ)
 
 -- those of the struct do
 members_are : AllByRecursion MemberKeeps struct.members
-members_are = ((none_clash, λ count is. let same : 2 ^ 20 ≡ count = cc in (omega arith, λ less. absurd (omega arith))), ((union_keeps, λ count is. cc), tt))
+members_are = ((none_clash, λ count is. let same : 2 ^ 21 - 1 ≡ count = cc in (omega arith, λ less. absurd (omega arith))), ((union_keeps, λ count is. cc), tt))
 
 -- and so does each of them
 of_members : (some : CStruct) (member : CMember) → Contains file.structs some → Contains some.members member → MemberKeeps member
@@ -444,7 +444,7 @@ low_names = no_clash (codes "x" ∷ codes "n" ∷ []) ((refl, tt), (tt, tt)) (fr
 low_keeps : FunctionKeeps file [] low
 low_keeps = record {
   names = low_names;
-  does = Counts (codes "n") (codes "n") (codes "n") 2 ∷ Puts (named (codes "x")) ∷ [];
+  does = Counts (codes "n") (codes "n") (codes "n") (2 ^ 24) ∷ Puts (named (codes "x")) ∷ [];
   acts = simp actions_are;
   each = ((refl, refl, refl, omega arith), (name_keeps_rules (scope_of file low) (codes "x") refl, tt));
   callees = [];
@@ -599,3 +599,31 @@ unfolding Breaks
 file_keeps_rules rule line (inl h) = outside_keeps rule h.1
 file_keeps_rules rule line (inr (before, function, (behind, whole), same, broken)) =
     at_place (λ before function. (rule : ℕ) → ¬ BreaksInside file before function rule) file.functions before behind function inside_keeps whole rule broken
+
+-- Lengths -------------------------------------------------------------------------------------------------------------
+
+-- an array of 2 ^ 24 elements, each a byte
+abbrev most_bytes : CMember
+most_bytes = record (member_of (codes "a") (Some (2 ^ 24))) { kind = Int false 8 }
+
+-- in a struct
+abbrev longest : CStruct
+longest = record { name = codes "s"; members = most_bytes ∷ [] }
+
+-- has a length that may be
+abbrev CountKeeps : CMember → Type 0
+CountKeeps member = (count : ℕ) → member.count ≡ Some count → (count ≢ 0) × (¬ (2 ^ 24 < count))
+
+most_keeps : CountKeeps most_bytes
+most_keeps count is = let same : 2 ^ 24 ≡ count = cc in (omega arith, λ less. absurd (omega arith))
+
+-- so does each array of the struct
+of_longest : (some : CStruct) (member : CMember) → Contains (longest ∷ []) some → Contains some.members member → CountKeeps member
+of_longest some member among inside =
+    of_one (λ some. (member : CMember) → Contains some.members member → CountKeeps member) longest some (λ member inside. of_one CountKeeps most_bytes member most_keeps inside) among member inside
+
+-- and 13 is kept
+pub longest_keeps : ¬ BreaksSizes (struct_alone longest)
+longest_keeps (some, among, inl large) = of_one (λ some. ¬ (2 ^ 24 < (struct_extent some).bytes)) longest some (λ large. absurd (omega arith)) among large
+longest_keeps (some, among, inr (member, count, inside, is, inl none)) = (of_longest some member among inside count is).0 none
+longest_keeps (some, among, inr (member, count, inside, is, inr large)) = (of_longest some member among inside count is).1 large

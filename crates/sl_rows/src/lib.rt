@@ -21,4 +21,6 @@ mod rows;
 #[cfg(test)]
 mod rules;
 #[cfg(test)]
+mod spelling;
+#[cfg(test)]
 mod words;

@@ -13,7 +13,19 @@ const INPUT: &[u8] = b"input fault\n";
 type Row = (&'static str, u8, &'static [u8], &'static [u8]);
 
 /// Loops with all the turns that a run has.
-const LOOPS: [Row; 12] = [
+const LOOPS: [Row; 14] = [
+    (
+        "    for (i <- 0 until 2) {\n      println(i)\n      assert(i < 1)\n      println(\"a\")\n    }\n    return 0\n",
+        66,
+        b"0\na\n1\n",
+        b"halt Assert a.scala:7\n",
+    ),
+    (
+        "    while (T) {\n      halt(\"a\")\n    }\n    return 0\n",
+        66,
+        b"",
+        b"halt Halt a.scala:6\n",
+    ),
     ("    while (F) {}\n    return 0\n", 0, b"", b""),
     (
         "    var x: Z = 3\n    while (x > 0) {\n      println(x)\n      x = x - 1\n    }\n    return x\n",
@@ -87,7 +99,35 @@ const LOOPS: [Row; 12] = [
 type Turned = (&'static str, &'static str, u8, &'static [u8], &'static [u8]);
 
 /// A turn is the call of `main` and each asking of a loop.
-const TURNS: [Turned; 14] = [
+const TURNS: [Turned; 18] = [
+    (
+        "--turns=12",
+        "    for (i <- 0 until 2) {\n      for (j <- 0 until 3) {\n        if (i < j) {\n        }\n      }\n    }\n    return 2\n",
+        2,
+        b"",
+        b"",
+    ),
+    (
+        "--turns=11",
+        "    for (i <- 0 until 2) {\n      for (j <- 0 until 3) {\n        if (i < j) {\n        }\n      }\n    }\n    return 2\n",
+        67,
+        b"",
+        SPENT,
+    ),
+    (
+        "--turns=4",
+        "    var x: Z = 0\n    while (x < 2) {\n      println(x)\n      x = x + 1\n    }\n    return 0\n",
+        0,
+        b"0\n1\n",
+        b"",
+    ),
+    (
+        "--turns=3",
+        "    var x: Z = 0\n    while (x < 2) {\n      println(x)\n      x = x + 1\n    }\n    return 0\n",
+        67,
+        b"0\n1\n",
+        SPENT,
+    ),
     ("--turns=0", "    return 0\n", 67, b"", SPENT),
     ("--turns=1", "    return 0\n", 0, b"", b""),
     (
@@ -194,7 +234,21 @@ const READ: [Read; 14] = [
 ];
 
 /// Sources near one with loops or input.
-const NEAR: [&str; 16] = [
+const NEAR: [&str; 30] = [
+    "    while (1) {}\n    return 0\n",
+    "    while (F) {\n      val x: Z = 1\n    }\n    println(x)\n    return 0\n",
+    "    while (F) {\n      val x: Z = 1\n    }\n    val x: Z = 2\n    return 0\n",
+    "    while (x < 1) {\n      val x: Z = 1\n    }\n    return 0\n",
+    "    for (i <- T until 1) {\n    }\n    return 0\n",
+    "    for (i <- 0 until i) {\n    }\n    return 0\n",
+    "    for (i <- 0 until 1) {\n    }\n    for (i <- 0 until 1) {\n    }\n    return 0\n",
+    "    for (i <- 0 until 1) {\n      val x: Z = 1\n    }\n    println(x)\n    return 0\n",
+    "    for (i <- 0 until 1) {\n      val x: Z = 1\n    }\n    val x: Z = 2\n    return 0\n",
+    "    for (i <- 0 until 1) {\n    } else {\n    }\n    return 0\n",
+    "    for (i <- 0 until 1 by 2) {\n    }\n    return 0\n",
+    "    for (i <- 0 until 1 + 1) {\n    }\n    return 0\n",
+    "    for (i: Z <- 0 until 1) {\n    }\n    return 0\n",
+    "    for (val <- 0 until 1) {\n    }\n    return 0\n",
     "    while (1) {\n    }\n    return 0\n",
     "    while (F) { }\n    return 0\n",
     "    while (F) {\n    return 0\n",

@@ -93,8 +93,230 @@ const INTEGERS: [Row; 14] = [
     ),
 ];
 
+/// An operation; and the status, what is on `out` and what is on `note` where its result is printed.
+const RESULTS: [Row; 50] = [
+    ("7 / 2", 0, b"3\n", b""),
+    ("7 % 2", 0, b"1\n", b""),
+    ("-7 / -2", 0, b"3\n", b""),
+    ("-7 % -2", 0, b"-1\n", b""),
+    ("6 / -3", 0, b"-2\n", b""),
+    ("-6 % 3", 0, b"0\n", b""),
+    ("0 / -5", 0, b"0\n", b""),
+    ("7 / -1", 0, b"-7\n", b""),
+    ("7 % -1", 0, b"0\n", b""),
+    (
+        "-9223372036854775807 / -1",
+        0,
+        b"9223372036854775807\n",
+        b"",
+    ),
+    (
+        "-9223372036854775808 / 1",
+        0,
+        b"-9223372036854775808\n",
+        b"",
+    ),
+    ("9223372036854775807 / -9223372036854775808", 0, b"0\n", b""),
+    (
+        "9223372036854775807 % -9223372036854775808",
+        0,
+        b"9223372036854775807\n",
+        b"",
+    ),
+    (
+        "-9223372036854775808 / 9223372036854775807",
+        0,
+        b"-1\n",
+        b"",
+    ),
+    (
+        "-9223372036854775808 % 9223372036854775807",
+        0,
+        b"-1\n",
+        b"",
+    ),
+    ("0 / 0", 66, b"", b"halt Zero a.scala:5\n"),
+    (
+        "-9223372036854775808 / 0",
+        66,
+        b"",
+        b"halt Zero a.scala:5\n",
+    ),
+    (
+        "-9223372036854775808 % 0",
+        66,
+        b"",
+        b"halt Zero a.scala:5\n",
+    ),
+    ("2 + 3", 0, b"5\n", b""),
+    ("-2 + -3", 0, b"-5\n", b""),
+    ("9223372036854775807 + 0", 0, b"9223372036854775807\n", b""),
+    (
+        "9223372036854775807 + -9223372036854775808",
+        0,
+        b"-1\n",
+        b"",
+    ),
+    (
+        "-9223372036854775807 + -1",
+        0,
+        b"-9223372036854775808\n",
+        b"",
+    ),
+    (
+        "-9223372036854775808 + -1",
+        66,
+        b"",
+        b"halt Range a.scala:5\n",
+    ),
+    ("5 - 7", 0, b"-2\n", b""),
+    ("9223372036854775806 - -1", 0, b"9223372036854775807\n", b""),
+    (
+        "-1 - -9223372036854775808",
+        0,
+        b"9223372036854775807\n",
+        b"",
+    ),
+    (
+        "9223372036854775807 - -1",
+        66,
+        b"",
+        b"halt Range a.scala:5\n",
+    ),
+    (
+        "0 - -9223372036854775808",
+        66,
+        b"",
+        b"halt Range a.scala:5\n",
+    ),
+    ("-3 * 7", 0, b"-21\n", b""),
+    ("0 * -9223372036854775808", 0, b"0\n", b""),
+    ("-9223372036854775808 * 0", 0, b"0\n", b""),
+    ("9223372036854775807 * 1", 0, b"9223372036854775807\n", b""),
+    (
+        "9223372036854775807 * -1",
+        0,
+        b"-9223372036854775807\n",
+        b"",
+    ),
+    (
+        "-9223372036854775807 * -1",
+        0,
+        b"9223372036854775807\n",
+        b"",
+    ),
+    (
+        "-9223372036854775808 * 1",
+        0,
+        b"-9223372036854775808\n",
+        b"",
+    ),
+    (
+        "4294967296 * -2147483648",
+        0,
+        b"-9223372036854775808\n",
+        b"",
+    ),
+    (
+        "4294967296 * 2147483648",
+        66,
+        b"",
+        b"halt Range a.scala:5\n",
+    ),
+    (
+        "-4294967296 * -2147483648",
+        66,
+        b"",
+        b"halt Range a.scala:5\n",
+    ),
+    (
+        "-3 * 3074457345618258603",
+        66,
+        b"",
+        b"halt Range a.scala:5\n",
+    ),
+    ("9223372036854775807 / 1", 0, b"9223372036854775807\n", b""),
+    (
+        "3037000500 * -3037000500",
+        66,
+        b"",
+        b"halt Range a.scala:5\n",
+    ),
+    (
+        "-3037000500 * 3037000500",
+        66,
+        b"",
+        b"halt Range a.scala:5\n",
+    ),
+    (
+        "-9223372036854775808 * -1",
+        66,
+        b"",
+        b"halt Range a.scala:5\n",
+    ),
+    ("5 + 5", 0, b"10\n", b""),
+    ("-99 - 1", 0, b"-100\n", b""),
+    ("100 + 1", 0, b"101\n", b""),
+    ("1000000000 * 1000000000", 0, b"1000000000000000000\n", b""),
+    (
+        "1000000000 * -1000000000",
+        0,
+        b"-1000000000000000000\n",
+        b"",
+    ),
+    ("1020304050607080900 + 9", 0, b"1020304050607080909\n", b""),
+];
+
 /// Choices, truth values, `assert` and `halt`.
-const CHOICES: [Row; 8] = [
+const CHOICES: [Row; 16] = [
+    (
+        "    if (F) {\n      halt(\"a\")\n    }\n    assert(F)\n    return 0\n",
+        66,
+        b"",
+        b"halt Assert a.scala:8\n",
+    ),
+    (
+        "    for (i <- 1 until 4) {\n      val a: B = i < 2\n      println(a)\n      val b: B = i <= 2\n      println(b)\n      val c: B = i > 2\n      println(c)\n      val d: B = i >= 2\n      println(d)\n      val e: B = i == 2\n      println(e)\n      val f: B = i != 2\n      println(f)\n    }\n    return 0\n",
+        0,
+        b"T\nT\nF\nF\nF\nT\nF\nT\nF\nT\nT\nF\nF\nF\nT\nT\nF\nT\n",
+        b"",
+    ),
+    (
+        "    for (i <- 1 until 4) {\n      if (i < 2) {\n        println(\"a\")\n      }\n      if (i <= 2) {\n        println(\"b\")\n      }\n      if (i > 2) {\n        println(\"c\")\n      }\n      if (i >= 2) {\n        println(\"d\")\n      }\n      if (i == 2) {\n        println(\"e\")\n      }\n      if (i != 2) {\n        println(\"f\")\n      }\n    }\n    return 0\n",
+        0,
+        b"a\nb\nf\nb\nd\ne\nc\nd\nf\n",
+        b"",
+    ),
+    (
+        "    var x: Z = 1\n    x = 2\n    println(x)\n    println(\"a\")\n    assert(T)\n    if (T) {\n      x = 3\n    }\n    if (F) {\n      x = 4\n    } else {\n      x = 5\n    }\n    while (F) {\n      x = 6\n    }\n    while (F) {}\n    for (i <- 0 until 1) {\n      x = 7\n    }\n    halt(\"b\")\n    return 0\n",
+        66,
+        b"2\na\n",
+        b"halt Halt a.scala:25\n",
+    ),
+    (
+        "    if (T) {\n      println(\"a\")\n      halt(\"\")\n    } else {\n      println(\"b\")\n    }\n    return 0\n",
+        66,
+        b"a\n",
+        b"halt Halt a.scala:7\n",
+    ),
+    (
+        "    if (F) {\n      println(\"a\")\n    } else {\n      println(\"b\")\n      assert(F)\n    }\n    return 0\n",
+        66,
+        b"b\n",
+        b"halt Assert a.scala:9\n",
+    ),
+    (
+        "    val b: B = T\n    println(b)\n    println(T)\n    val c: B = b\n    println(c)\n    return 0\n",
+        0,
+        b"T\nT\nT\n",
+        b"",
+    ),
+    (
+        "    println(\" !#$%&'()*+,-./0123456789:;<=>?@ABCDEFGHIJKLMNOPQRSTUVWXYZ[]^_`abcdefghijklmnopqrstuvwxyz{|}~\")\nreturn 3\n",
+        3,
+        b" !#$%&'()*+,-./0123456789:;<=>?@ABCDEFGHIJKLMNOPQRSTUVWXYZ[]^_`abcdefghijklmnopqrstuvwxyz{|}~\n",
+        b"",
+    ),
     (
         "    val b: B = 1 < 2\n    println(b)\n    println(F)\n    return 0\n",
         0,
@@ -136,7 +358,7 @@ const CHOICES: [Row; 8] = [
 ];
 
 /// Sources near a plain one.
-const NEAR: [&str; 10] = [
+const NEAR: [&str; 70] = [
     "    val x: Z = 1\n    x = 2\n    return 0\n",
     "    val x: B = 1\n    return 0\n",
     "    val x: Z = 1\n    val x: Z = 2\n    return 0\n",
@@ -147,12 +369,87 @@ const NEAR: [&str; 10] = [
     "    val x: Z = 9223372036854775808\n    return 0\n",
     "    val x: Z = 1 + T\n    return 0\n",
     "    val x: Z = 1  + 1\n    return 0\n",
+    "    val x: Z = -9223372036854775809\n    return 0\n",
+    "    val x: Z = -0\n    return 0\n",
+    "    val x: Z = 01\n    return 0\n",
+    "    val x: Z = -01\n    return 0\n",
+    "    val x: Z = +1\n    return 0\n",
+    "    val x: Z = T\n    return 0\n",
+    "    val x: Z = 1 < 2\n    return 0\n",
+    "    val x: B = 1 + 2\n    return 0\n",
+    "    val x: Z = T + 1\n    return 0\n",
+    "    val x: B = T == T\n    return 0\n",
+    "    val x: B = 1 === 1\n    return 0\n",
+    "    val x: B = 1 <2\n    return 0\n",
+    "    val x: B = !T\n    return 0\n",
+    "    val x: B = true\n    return 0\n",
+    "    val x: Z = x\n    return 0\n",
+    "    val x = 1\n    return 0\n",
+    "    val x:Z = 1\n    return 0\n",
+    "    val x: Int = 1\n    return 0\n",
+    "    val x: Z = 1;\n    return 0\n",
+    "    val x: Z = 1 \n    return 0\n",
+    "    val x: Z = 1 // a\n    return 0\n",
+    "    var x: Z = 1\n    x = T\n    return 0\n",
+    "    var x: B = T\n    x = 1\n    return 0\n",
+    "    var x: Z = 1\n    x += 1\n    return 0\n",
+    "    x = 1\n    return 0\n",
+    "    if (T == T) {\n    }\n    return 0\n",
+    "    if (1) {\n    }\n    return 0\n",
+    "    if (1 + 1) {\n    }\n    return 0\n",
+    "    if (Port.get()) {\n    }\n    return 0\n",
+    "    if(T) {\n    }\n    return 0\n",
+    "    if (T){\n    }\n    return 0\n",
+    "    if (T) {}\n    return 0\n",
+    "    if (T) {\n    } else {\n    } else {\n    }\n    return 0\n",
+    "    if (T) {\n      val x: Z = 1\n    }\n    val x: Z = 2\n    return 0\n",
+    "    if (T) {\n      val x: Z = 1\n    } else {\n      val x: Z = 2\n    }\n    return 0\n",
+    "    if (T) {\n    } else {\n      val x: Z = 1\n    }\n    val x: Z = 2\n    return 0\n",
+    "    if (F) {\n    } else {\n      val x: Z = 1\n    }\n    println(x)\n    return 0\n",
+    "    if (T) {\n      val x: Z = 1\n    } else {\n      println(x)\n    }\n    return 0\n",
+    "    if (T) {\n      return 0\n    }\n    return 0\n",
+    "    } else {\n    return 0\n",
+    "    }\n    return 0\n",
+    "    assert(1)\n    return 0\n",
+    "    halt(T)\n    return 0\n",
+    "    halt()\n    return 0\n",
+    "    println()\n    return 0\n",
+    "    println (1)\n    return 0\n",
+    "    println(1 + 1)\n    return 0\n",
+    "    println(1, 2)\n    return 0\n",
+    "    print(\"a\")\n    return 0\n",
+    "    println(\"a\"\")\n    return 0\n",
+    "    println(\"\t\")\n    return 0\n",
+    "    println(\"\x7f\")\n    return 0\n",
+    "    println(\"\u{e9}\")\n    return 0\n",
+    "    println(\"01234567890123456789012345678901234567890123456789012345678901234567890123456789012345678901234567890\")\n    return 0\n",
+    "\n    return 0\n",
+    "\treturn 0\n",
+    "    return 0 \n",
+    "    return 0;\n",
+    "    return 1 + 1\n",
+    "    return\n",
 ];
 
 #[test]
 fn integers_run(rt: HostRuntime) -> Result<(), Fail> {
     for (body, code, out, note) in &INTEGERS {
         assert!(rt; runs(rt.alloc(), body, (*code, out, note))?);
+    }
+    Ok(())
+}
+
+/// Whether this operation is computed so.
+fn computes(alloc: Global, row: &Row) -> Result<bool, Fail> {
+    let (operation, code, out, note) = row;
+    let body = format!(in alloc; "    val x: Z = {operation}\n    println(x)\n    return 0\n")?;
+    runs(alloc, body.as_str(), (*code, out, note))
+}
+
+#[test]
+fn operations_are_computed(rt: HostRuntime) -> Result<(), Fail> {
+    for row in &RESULTS {
+        assert!(rt; computes(rt.alloc(), row)?);
     }
     Ok(())
 }

@@ -8,7 +8,19 @@ const USAGE: &[u8] = b"usage: check, emit, run, step, stack or sample\n";
 const NOT_BUILT: &[u8] = b"not built\n";
 
 /// Words that have no reading.
-const UNREAD: [&[&str]; 41] = [
+const UNREAD: [&[&str]; 53] = [
+    &["run", "--turns=", "a"],
+    &["run", "--turns=-0", "a"],
+    &["run", "--turns=+5", "a"],
+    &["run", "--turns=05", "a"],
+    &["run", "--turns=5 ", "a"],
+    &["run", "--turns", "-5", "a"],
+    &["run", "--turn=5", "a"],
+    &["run", "--turns=5", "--turns=5", "a"],
+    &["run", "a", "--turns"],
+    &["run", "--turns=5"],
+    &["emit", "--turns=5", "a"],
+    &["emit", "-oq", "--turns=5", "a"],
     &["run", "--turns"],
     &["run", "--turns", "a"],
     &["run", "--turns", "01", "a"],
@@ -64,7 +76,11 @@ fn words_without_a_reading_are_refused(rt: HostRuntime) -> Result<(), Fail> {
 }
 
 /// Words, and the files that they name.
-const FILES: [(&[&str], &[&str]); 23] = [
+const FILES: [(&[&str], &[&str]); 27] = [
+    (&["run", "a", "--turns", "5"], &["a"]),
+    (&["run", "a", "--turns=1", "b", "--"], &["a", "b"]),
+    (&["run", "--turns", "1", "--", "--turns"], &["--turns"]),
+    (&["run", "--", "--turns=5"], &["--turns=5"]),
     (&["run", "a"], &["a"]),
     (&["run", "-"], &["-"]),
     (&["run", "--", "a"], &["a"]),
