@@ -1,7 +1,7 @@
 // Expressions.
 #![tactic(auto, using(crate::proofs::Variants::codes_of, crate::proofs::Variants::texts_of))]
 
-ghost use Rattle.std.specs.Prelude.{◌≡◌, ◌++◌, suc, None, Some, IfOk, OnOk, OnSome, MatchOption};
+ghost use Rattle.std.specs.Prelude.{◌≡◌, ◌++◌, ◌<◌, ◌-◌, ◌^◌, ◌≤ℤ◌, pos, suc, IsOk, None, Some, IfOk, OnOk, OnSome, MatchOption};
 ghost use Rattle.sl_frames.specs.Operations.{operated};
 ghost use Rattle.sl_frames.specs.Translated.{number_expr, temporary, code_of, text_of, needed};
 
@@ -88,15 +88,17 @@ fn result_of(
 
 /// The next number of a temporary. The greatest has none, and counts more operations than any memory holds.
 fn next(number: usize) -> Result<usize, Mem>
-    ensures { IfOk result (λ next. next ≡ suc number) }
+    ensures next { IfOk result (λ next. next ≡ suc number) }
+    ensures room { suc number < 2 ^ 64 → IsOk result }
 {
     number.checked_add(1).ok_or(Mem)
 }
 
 /// A number from -2^63 to 2^63 - 1, the only ones in a core whose types are all `int64_t`, in literals of `int64_t`. Numbers below
-/// -2^64 or from 2^64 on are answered as if memory ran out.
+/// -2^64 or from 2^64 on are answered as if memory ran out. One that isn't negative takes no memory.
 fn number_expr(alloc: Global, number: i128) -> Result<CExpr, Mem>
-    ensures { IfOk result (λ e. e ≡ number_expr number) }
+    ensures expr { IfOk result (λ e. e ≡ number_expr number) }
+    ensures natural { pos 0 ≤ℤ number → number ≤ℤ pos (2 ^ 64 - 1) → IsOk result }
 {
     if number >= 0 {
         return Ok(constant(u64::try_from(number).ok().ok_or(Mem)?));
