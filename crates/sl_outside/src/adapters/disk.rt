@@ -1,4 +1,4 @@
-ghost use Rattle.std.specs.Prelude.{◌≡◌, ◌<◌, ◌≤◌, ◌^◌, [], length, Some, Err, IfErr, IfOk, IfSome, IsErr, IsOk, IsOkAnd, IsSome};
+ghost use Rattle.std.specs.Prelude.{◌≡◌, ◌<◌, ◌≤◌, ◌+◌, ◌^◌, [], ◌++◌, length, Some, Err, IfErr, IfOk, IfSome, IsErr, IsOk, IsOkAnd, IsSome, OnOk};
 ghost use Rattle.std.specs.IoError.{error_kind};
 ghost use Rattle.sl_outside.specs.Adapters.{disk_faults, disk_calls, read_answer, refused_for, WholeWritten};
 
@@ -101,16 +101,24 @@ fn read_whole<F: Read>(alloc: Global, file: &mut F) -> Result<Row<u8>, Refused>
     for _ in 0..u64::MAX {
         match read_retrying(file, &mut buffer) {
             Ok(0) => return Ok(Row::from_vec(bytes)),
-            Ok(count) => {
-                bytes.extend_from_slice(&buffer[..count])?;
-                if bytes.len() > MAX_FILE_LEN {
-                    return Err(Refused::Failed);
-                }
-            }
+            Ok(count) => take_piece(&mut bytes, &buffer[..count])?,
             Err(e) => return Err(refused(e.kind())),
         }
     }
     Err(Refused::Failed)
+}
+
+/// Puts a piece behind what was read. It is a fault only where that makes more than 2^30 bytes.
+fn take_piece(bytes: &mut Vec<u8>, piece: &[u8]) -> Result<(), Refused>
+    ensures taken { OnOk result (bytes.new.items ≡ bytes.old.items ++ piece.now) }
+    ensures short { OnOk result (length bytes.new.items ≤ 2 ^ 30) }
+    ensures too_long { result ≡ Err Refused.Failed → 2 ^ 30 < length bytes.old.items + length piece.now }
+{
+    bytes.extend_from_slice(piece)?;
+    if bytes.len() > MAX_FILE_LEN {
+        return Err(Refused::Failed);
+    }
+    Ok(())
 }
 
 /// Writes a file that the system made or emptied. Every error is a fault, want of memory too: the file may have been emptied
