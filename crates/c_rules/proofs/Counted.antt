@@ -1,5 +1,5 @@
 -- The numbers of functions by their names, and what of all functions is so of those with a name.
-use Rattle.std.proofs.Common.{◌≡◌, ℕ, zero, suc, ◌+◌, List, [], ◌∷◌, ◌++◌, Option, None, Some, Bool, true, false, not, ◌||◌, cond, if◌then◌else◌, refl, sym, ap, ap₂, ◌∙◌, subst, arith, length, map, append_assoc, append-nil, length-append}
+use Rattle.std.proofs.Common.{◌≡◌, ℕ, suc, ◌+◌, List, [], ◌∷◌, ◌++◌, Option, None, Some, Bool, true, false, not, ◌||◌, cond, if◌then◌else◌, refl, sym, ap, ap₂, ◌∙◌, arith, length, map, append_assoc, append-nil, length-append}
 use Rattle.std.specs.Prelude.{slice_get, ◌==◌}
 use Rattle.std.specs.List.{list_any, filter, count_by}
 use Rattle.std.specs.Option.{option_and_then, option_map_or}

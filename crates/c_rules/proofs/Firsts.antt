@@ -10,7 +10,7 @@ use Rattle.c_tree.specs.declared.tree.CFun.{CFun}
 use Rattle.c_tree.specs.Text.{first_line}
 use Rattle.c_tree.specs.Rules.{BreaksInside, BreaksOutside, Breaks}
 use Rattle.c_tree.proofs.Lists.{not_empty}
-use Rattle.c_rules.specs.Least.{IsLeast, IsFirst, is_before, sooner}
+use Rattle.c_rules.specs.Least.{IsLeast, IsFirst, is_before, is_settled, sooner}
 use Rattle.c_rules.specs.Inside.{BreaksAmong}
 use Rattle.c_rules.proofs.Anys.{one_more}
 
@@ -69,10 +69,32 @@ module _ (P : ℕ → ℕ → Type 0) (line : ℕ) (Q : ℕ → Type 0) where
   is_sooner None (Some rule) first next = (inr (refl, next.0), λ other at either. ⊎_elim (λ p. absurd (first other at p)) (λ (same, q). inr (sym same, next.1 other q)) either)
   is_sooner (Some best) (Some rule) first next = sooner_some best rule (is_before rule line best) (before_holds rule line best) first next
 
+  settled_some : (first : NotC) (settled : Bool) → settled ≡ true → Decides settled ((first.line < line) ⊎ ((first.line ≡ line) × (first.rule < 11))) → ((rule : ℕ) → Q rule → 10 ≤ rule) → IsFirst P (Some first) → IsFirst Either (Some first)
+  settled_some first settled is decides all so_far = (
+    inl so_far.0,
+    λ other at either. ⊎_elim (so_far.1 other at)
+        (λ (same, q). let from = all other q in ⊎_elim (λ less. inl (omega arith)) (λ (here, below). inr (omega arith, omega arith)) (decides.0 is))
+        either,
+  )
+
+  -- where nothing on this line can stand before
+  pub is_kept : (best : Option NotC) → is_settled best line ≡ true → ((rule : ℕ) → Q rule → 10 ≤ rule) → IsFirst P best → IsFirst Either best
+  is_kept None settled all so_far = absurd (false≢true settled)
+  is_kept (Some first) settled all so_far =
+      settled_some first (is_settled (Some first) line) settled
+      (Decides-or (nat_lt first.line line) (first.line == line && nat_lt first.rule 11) (Decides-ltb first.line line)
+      (Decides-and (first.line == line) (nat_lt first.rule 11) (Decides-eqb first.line line) (Decides-ltb first.rule 11)))
+      all so_far
+
 -- of facts that are alike
 pub first_like : (P Q : ℕ → ℕ → Type 0) (best : Option NotC) → ((rule line : ℕ) → P rule line → Q rule line) → ((rule line : ℕ) → Q rule line → P rule line) → IsFirst P best → IsFirst Q best
 first_like P Q None to from is = λ rule line q. is rule line (from rule line q)
 first_like P Q (Some first) to from is = (to first.rule first.line is.0, λ other at q. is.1 other at (from other at q))
+
+-- where nothing is broken on a line
+sooner_none : (best : Option NotC) (line : ℕ) → sooner best line None ≡ best
+sooner_none None line = refl
+sooner_none (Some first) line = refl
 
 -- Functions ----------------------------------------------------------------------------------------------------------------
 
@@ -98,8 +120,30 @@ module _ (file : CFile) where
       (λ other at among. ⊎_elim (λ outside. inr outside) (λ (before, function, (behind, whole), same, broken). absurd (not_empty function before behind whole)) among)
       (is_sooner Nothing first_line (BreaksOutside file) None rule (λ other at never. never) least))
 
+  -- rules in functions have numbers from 10 on
+  inside_from : (before : List CFun) (function : CFun) (rule : ℕ) → BreaksInside file before function rule → 10 ≤ rule
+  inside_from before function rule broken =
+      ⊎_elim (λ (is, _). omega arith)
+      (λ rest. ⊎_elim (λ (is, _). omega arith)
+      (λ rest. ⊎_elim (λ (is, _). omega arith)
+      (λ rest. ⊎_elim (λ (is, _). omega arith)
+      (λ rest. ⊎_elim (λ (is, _). omega arith)
+      (λ rest. ⊎_elim (λ (is, _). omega arith)
+      (λ rest. ⊎_elim (λ (is, _). omega arith)
+      (λ rest. ⊎_elim (λ (is, _). omega arith)
+      (λ rest. ⊎_elim (λ (is, _). omega arith) (λ (is, _). omega arith) rest) rest) rest) rest) rest) rest) rest) rest) broken
+
+  -- with what is told of one more
+  one_told : (before : List CFun) (function : CFun) (best : Option NotC) (rule : Option ℕ) → IsFirst (BreaksAmong file before) best → IsLeast (BreaksInside file before function) rule ⊎ ((rule ≡ None) × (is_settled best function.line ≡ true)) → IsFirst (λ (other at : ℕ). BreaksAmong file before other at ⊎ ((at ≡ function.line) × BreaksInside file before function other)) (sooner best function.line rule)
+  one_told before function best rule so_far (inl inside) = is_sooner (BreaksAmong file before) function.line (BreaksInside file before function) best rule so_far inside
+  one_told before function best rule so_far (inr (none, settled)) =
+      let Both = λ (other at : ℕ). BreaksAmong file before other at ⊎ ((at ≡ function.line) × BreaksInside file before function other) in
+      subst (λ rule. IsFirst Both (sooner best function.line rule)) (sym none)
+      (subst (IsFirst Both) (sym (sooner_none best function.line))
+      (is_kept (BreaksAmong file before) function.line (BreaksInside file before function) best settled (inside_from before function) so_far))
+
   -- one more
-  pub first_more : (functions : List CFun) (i : ℕ) (function : CFun) (best next : Option NotC) (rule : Option ℕ) → i < length functions → function ≡ get_or functions i function → IsFirst (BreaksAmong file (take i functions)) best → IsLeast (BreaksInside file (take i functions) function) rule → next ≡ sooner best function.line rule → IsFirst (BreaksAmong file (take (i + 1) functions)) next
+  pub first_more : (functions : List CFun) (i : ℕ) (function : CFun) (best next : Option NotC) (rule : Option ℕ) → i < length functions → function ≡ get_or functions i function → IsFirst (BreaksAmong file (take i functions)) best → (IsLeast (BreaksInside file (take i functions) function) rule ⊎ ((rule ≡ None) × (is_settled best function.line ≡ true))) → next ≡ sooner best function.line rule → IsFirst (BreaksAmong file (take (i + 1) functions)) next
   first_more functions i function best next rule within is so_far inside gives =
       let before = take i functions in
       let Last = λ (other at : ℕ). (at ≡ function.line) × BreaksInside file before function other in
@@ -114,7 +158,7 @@ module _ (file : CFile) where
       (λ (first, some, (behind, whole), same, broken). in_one_more (BreaksAmong file before other at ⊎ Last other at) before first behind function some
       (λ all this. inr (subst (λ (f : CFun). (at ≡ f.line) × BreaksInside file before f other) this (same, subst (λ list. BreaksInside file list some other) all broken)))
       (λ rest whole. inl (inr (first, some, (rest, whole), same, broken))) whole) among)
-      (is_sooner (BreaksAmong file before) function.line (BreaksInside file before function) best rule so_far inside)))
+      (one_told before function best rule so_far inside)))
 
   -- all
   pub first_all : (functions : List CFun) (i : ℕ) (best : Option NotC) → length functions ≤ i → functions ≡ file.functions → IsFirst (BreaksAmong file (take i functions)) best → IsFirst (Breaks file) best

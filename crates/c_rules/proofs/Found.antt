@@ -1,12 +1,11 @@
 -- What is found by names is what a walk finds.
 use Rattle.std.proofs.Common.{◌≡◌, ℕ, List, [], ◌∷◌, ◌++◌, Option, None, Some, Bool, true, false, not, ◌&&◌, ◌||◌, if◌then◌else◌, refl, sym, ap, ap₂, ◌∙◌, length, ◌==◌}
 use Rattle.std.specs.Prelude.{slice_get}
-use Rattle.std.specs.List.{list_any, count_by}
+use Rattle.std.specs.List.{list_any}
 use Rattle.std.specs.Option.{is_some, option_and_then}
 use Rattle.std.specs.Str.{bytes_eq}
 use Rattle.std.specs.Global.{Vec}
 use Rattle.std.proofs.lemmas.List.Folds.{list_any-append}
-use Rattle.c_tree.specs.declared.tree.CFile.{CFile}
 use Rattle.c_tree.specs.declared.tree.CFun.{CFun}
 use Rattle.c_tree.specs.declared.tree.CPlace.{CPlace}
 use Rattle.c_tree.specs.declared.tree.CExpr.{CExpr}

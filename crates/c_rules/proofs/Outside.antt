@@ -144,3 +144,10 @@ module _ (file : CFile) where
       (is_least (λ rule. (rule ≡ 13) × BreaksSizes file) (λ rule. (rule ≡ 22) × BreaksPrototypes file) (told 13 sizes) (told 22 protos)
       (is_told (BreaksSizes file) 13 sizes (Decides-at sizes (sizes_broken file) of_sizes (sizes_hold file)))
       (is_told (BreaksPrototypes file) 22 protos (Decides-at protos (protos_broken file) of_protos protos_hold)))
+
+  -- where names clash
+  pub names_least : BreaksNames file → IsLeast (BreaksOutside file) (Some 10)
+  names_least clash = (
+    inl (refl, clash),
+    λ other broken. ⊎_elim (λ (is, _). omega arith) (λ rest. ⊎_elim (λ (is, _). omega arith) (λ (is, _). omega arith) rest) broken,
+  )

@@ -1,13 +1,11 @@
 -- What stands in loops, one form at a time.
-use Rattle.std.proofs.Common.{◌≡◌, ℕ, ◌+◌, ◌<◌, ◌≤◌, List, [], ◌∷◌, ◌++◌, Bool, true, false, ◌||◌, Option, Some, None, refl, sym, ap, ◌∙◌, length, get_or, take, map}
+use Rattle.std.proofs.Common.{◌≡◌, ℕ, ◌+◌, ◌<◌, ◌≤◌, List, [], ◌∷◌, ◌++◌, Bool, true, false, ◌||◌, refl, sym, ap, ◌∙◌, length, get_or, take, map}
 use Rattle.std.specs.Borrow.{Bor}
 use Rattle.std.proofs.lemmas.List.{take_more, take_all}
 use Rattle.std.proofs.lemmas.List.Folds.{list_any-append}
 use Rattle.std.specs.List.{list_any}
-use Rattle.c_tree.specs.declared.tree.CExpr.{CExpr}
 use Rattle.c_tree.specs.declared.tree.CStmt.{CStmt}
-use Rattle.c_tree.specs.declared.tree.CStmt.TheVariants.{If}
-use Rattle.c_tree.specs.Rules.{some_are, strays, any_with, recounts}
+use Rattle.c_tree.specs.Rules.{some_are, any_with, recounts}
 use Rattle.c_rules.specs.Loops.{names_seen}
 use Rattle.c_tree.proofs.Variants.{strays_of_assign, strays_of_call, strays_of_if, strays_of_if_else, strays_of_loop, strays_of_count, strays_of_break, strays_of_return, strays_of_put, strays_of_get, strays_of_halt, recounts_of_assign, recounts_of_call, recounts_of_if, recounts_of_if_else, recounts_of_loop, recounts_of_count, recounts_of_break, recounts_of_return, recounts_of_put, recounts_of_get, recounts_of_halt}
 

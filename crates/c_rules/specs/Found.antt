@@ -1,5 +1,5 @@
 -- What the names are that a function's statements are checked with.
-use Rattle.std.specs.Prelude.{List, ◌++◌}
+use Rattle.std.specs.Prelude.{◌++◌}
 use Rattle.c_rules.specs.declared.around.Around.{Around}
 use Rattle.c_rules.specs.Naming.{AreKinds, AreNumbered, AreEarlier}
 

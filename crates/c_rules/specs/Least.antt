@@ -1,5 +1,5 @@
 -- Of rules that may be broken, the one with the least number.
-use Rattle.std.specs.Prelude.{◌≡◌, ◌⊎◌, ℕ, ◌<◌, ◌≤◌, List, [], ◌∷◌, Bool, ◌&&◌, ◌||◌, ◌==◌, Option, Some, None, min, if◌then◌else◌, nat_lt}
+use Rattle.std.specs.Prelude.{◌≡◌, ◌⊎◌, ℕ, ◌<◌, ◌≤◌, List, [], ◌∷◌, Bool, false, ◌&&◌, ◌||◌, ◌==◌, Option, Some, None, min, if◌then◌else◌, nat_lt}
 use Rattle.c_tree.specs.declared.fault.NotC.{NotC}
 
 -- a rule where it is broken
@@ -31,6 +31,11 @@ IsFirst P (Some first) = P first.rule first.line × ((other elsewhere : ℕ) →
 -- a rule that is broken on a line stands before the one that is told so far
 abbrev pub is_before : ℕ → ℕ → NotC → Bool
 is_before rule line first = nat_lt line first.line || (line == first.line && nat_lt rule first.rule)
+
+-- no rule that is broken in a function on a line stands before what is told so far: rules in functions have numbers from 10 on
+abbrev pub is_settled : Option NotC → ℕ → Bool
+is_settled None line = false
+is_settled (Some first) line = nat_lt first.line line || (first.line == line && nat_lt first.rule 11)
 
 -- the first, of what is told so far and a rule that is broken on a line
 abbrev pub sooner : Option NotC → ℕ → Option ℕ → Option NotC

@@ -1,14 +1,14 @@
 // The check of a file.
-ghost use Rattle.std.specs.Prelude.{◌≡◌, IfOk};
-ghost use Rattle.c_tree.specs.Rules.{Breaks, BreaksOutside};
-ghost use Rattle.c_rules.specs.Checking.{Checks};
-ghost use Rattle.c_rules.specs.Least.{IsFirst, IsLeast};
+ghost use Rattle.std.specs.Prelude.{◌≡◌, ◌⊎◌, IfOk, None, true};
+ghost use Rattle.c_tree.specs.Rules.{Breaks, BreaksInside, BreaksOutside, KeepsRules};
+ghost use Rattle.c_rules.specs.Found.{AreFound};
+ghost use Rattle.c_rules.specs.Least.{IsFirst, IsLeast, is_settled};
 ghost use Rattle.c_rules.specs.Naming.{AreNumbered};
 
 use crate::around::Around;
 use crate::inside::least_inside;
 use crate::kinds::{kinds_of, local_kinds};
-use crate::least::{least, sooner, told};
+use crate::least::{is_settled, least, sooner, told};
 use crate::names::breaks_names;
 use crate::naming::Names;
 use crate::numbers::{add_name, numbers_of};
@@ -25,11 +25,15 @@ const FIRST_LINE: u64 = 7;
 #[derive(Drop)]
 pub struct Checked {
     file: CFile,
+    pub ghost keeps: { KeepsRules file },
 }
 
 impl Checked {
+    ghost use Rattle.c_rules.specs.Checking.{Checks};
+
     /// A file that breaks no rule, or its first broken rule: the one on the least line, and of those on one line the one with the
-    /// least number. A refusal drops the file. It takes time linear in the file but for the logarithm of a sorted map.
+    /// least number. A refusal drops the file. It takes time linear in the file but for the logarithm of a sorted map, in a file
+    /// with no function on a line before the first one behind the prelude.
     ///
     /// `Err(CFault::Mem)` comes only where memory runs out. The contract doesn't say so: it leaves that answer free.
     pub fn check(alloc: Global, file: CFile) -> Result<Checked, CFault>
@@ -72,10 +76,21 @@ fn first_broken(alloc: Global, file: &CFile) -> Result<Option<NotC>, Mem>
             protos: &protos,
             names: &names,
         };
-        best = sooner(best, function.line, least_inside(alloc, &around)?);
+        best = sooner(best, function.line, rule_inside(alloc, best, &around)?);
         add_name(alloc, &mut names, function)?;
     }
     Ok(best)
+}
+
+/// The least rule that a function breaks. Where none that it breaks can stand before what is told so far, it isn't looked at.
+fn rule_inside(alloc: Global, best: Option<NotC>, around: &Around) -> Result<Option<u8>, Mem>
+    requires { AreFound around.now }
+    ensures { IfOk result (λ rule. IsLeast (BreaksInside around.now.file.now around.now.earlier.now around.now.function.now) rule ⊎ ((rule ≡ None) × (is_settled best around.now.function.now.line ≡ true))) }
+{
+    if is_settled(best, around.function.line) {
+        return Ok(None);
+    }
+    least_inside(alloc, around)
 }
 
 /// The least rule that is broken outside functions.
@@ -89,9 +104,10 @@ fn least_outside(
     requires protos { AreNumbered file.now.protos protos.now }
     ensures { IfOk result (λ rule. IsLeast (BreaksOutside file.now) rule) }
 {
-    let names = breaks_names(alloc, file)?;
+    if breaks_names(alloc, file)? {
+        return Ok(Some(10));
+    }
     let sizes = breaks_sizes(file);
     let protos = breaks_prototypes(file, numbers, protos);
-    let behind = least(told(13, sizes), told(22, protos));
-    Ok(least(told(10, names), behind))
+    Ok(least(told(13, sizes), told(22, protos)))
 }

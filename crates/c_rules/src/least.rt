@@ -1,8 +1,11 @@
 // Of rules that are broken, the least, and the first.
 ghost use Rattle.std.specs.Prelude.{◌≡◌};
-ghost use Rattle.c_rules.specs.Least.{least, sooner, told};
+ghost use Rattle.c_rules.specs.Least.{is_settled, least, sooner, told};
 
 use c_tree::NotC;
+
+/// The least rule that can be broken in a function.
+const LEAST_INSIDE: u8 = 10;
 
 /// A rule where it is broken.
 pub fn told(rule: u8, broken: bool) -> Option<u8>
@@ -19,6 +22,16 @@ pub fn least(left: Option<u8>, right: Option<u8>) -> Option<u8>
         (None, right) => right,
         (left, None) => left,
         (Some(left), Some(right)) => Some(left.min(right)),
+    }
+}
+
+/// No rule that is broken in a function on a line stands before what is told so far.
+pub fn is_settled(best: Option<NotC>, line: u64) -> bool
+    ensures { result ≡ is_settled best line }
+{
+    match best {
+        None => false,
+        Some(first) => { first.line < line || first.line == line && first.rule <= LEAST_INSIDE }
     }
 }
 

@@ -11,8 +11,8 @@ loop-index-init c = record {
   earlier = earlier_none c.new-names.result c.new-names.ensures;
 }
 
-pub least_inside-requires : goal.least_inside-requires
-least_inside-requires c = record {
+pub rule_inside-requires : goal.rule_inside-requires
+rule_inside-requires c = record {
   globals = subst (λ vars. AreKinds vars c.in_ok-globals.globals) c.as_slice.ensures c.in_ok-globals.ensures;
   locals = c.in_ok-locals.ensures;
   functions = subst (λ functions. AreNumbered functions c.in_ok-numbers.numbers) c.as_slice-2.ensures c.in_ok-numbers.ensures;
@@ -27,8 +27,8 @@ loop-index-preserved c =
     let x = c.index-functions-index.result
     in record {
       first =
-          first_more c.args.file.now functions i x c.loop-index.best c.sooner-best-in-loop-index.result c.in_ok-least_inside.field-0
-          c.loop-index-test.true c.index-functions-index.is c.loop-index.invariant.first c.in_ok-least_inside.ensures c.sooner-best-in-loop-index.ensures;
+          first_more c.args.file.now functions i x c.loop-index.best c.sooner-best-in-loop-index.result c.in_ok-rule_inside.field-0
+          c.loop-index-test.true c.index-functions-index.is c.loop-index.invariant.first c.in_ok-rule_inside.ensures c.sooner-best-in-loop-index.ensures;
       earlier =
           subst (λ some. AreEarlier some c.add_name.new.names) (appended [] functions i x x c.loop-index-test.true c.index-functions-index.is)
           (c.in_ok-add_name.ensures (take i functions) c.loop-index.invariant.earlier);

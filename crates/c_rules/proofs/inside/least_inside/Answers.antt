@@ -1,6 +1,6 @@
 use Rattle.std.proofs.Common.{[], ap, ap₂, ◌∙◌, sym, subst, map}
 use Rattle.c_tree.specs.Rules.{BreaksInside, any_with, recounts}
-use Rattle.c_rules.specs.Least.{told, least, IsLeast}
+use Rattle.c_rules.specs.Least.{least, IsLeast}
 use Rattle.c_rules.specs.Bodies.{rule_of, of_block}
 use Rattle.c_rules.proofs.Decided.{inside_least}
 use Rattle.c_rules.proofs.Rounds.{any_map}
