@@ -20,6 +20,7 @@ object X extends App {
 """
 GREATEST_TURNS = 2**63 - 1
 MOST_FILES = 255
+LONGEST = 255  # bytes of a name, in the systems' folders
 DEFAULT_TURNS = 1000000000
 # The files of the folder, by their names. A name with nothing is a folder
 FILES = {
@@ -114,7 +115,7 @@ def wanted_of(product, words):
         return (b"", 64, b"usage: check, emit, run, step, stack or sample\n"), None
     command, value, names = asked
     for name in names:
-        if name in FAULTY:
+        if name in FAULTY or len(name.encode()) > LONGEST:
             return (b"", 73, b"folder fault\n"), None
         if FILES.get(name) is None:
             return (b"", 72, f"no file {name}\n".encode()), None
@@ -126,7 +127,7 @@ def wanted_of(product, words):
     if command == "run":
         return answer(FILES[names[0]].encode(), names[0], b"", value), None
     written = value + ".c"
-    if "/" in value or len(written.encode()) > 255:
+    if "/" in value or len(written.encode()) > LONGEST:
         return (b"", 73, b"folder fault\n"), None
     return (lambda: (f"{written} {len(product.read(written) or b'')} bytes\n".encode(), 0, b"")), written
 
