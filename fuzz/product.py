@@ -18,8 +18,8 @@ class Product:
         self.calls = 0
         self.differed = 0
         self.statuses = {}
-        usage = (b"", 64, b"usage: check, emit, run, step, stack or sample\n")
-        self.compare("the launcher without words", self.call(LAUNCHER), usage)
+        # standard error also says so where the launcher builds
+        self.compare("the launcher without words", self.call(LAUNCHER)[:2], (b"", 64))
 
     def call(self, *command, data=b"", **streams):
         """Standard output, the status and standard error of a command. A status below 0 is a signal."""

@@ -1,18 +1,15 @@
 -- The answer to words over what a folder holds, case by case.
-use Rattle.std.proofs.Common.{◌≡◌, ℕ, ◌≤◌, List, [], Bool, Some, None, ap, ap₂, ◌∙◌, cond}
-use Rattle.std.specs.Prelude.{pos, Ok, Err}
-use Rattle.std.proofs.lemmas.Bool.{le-leb}
+use Rattle.std.proofs.Common.{◌≡◌, ℕ, List, Some, None, ap, ◌∙◌}
+use Rattle.std.specs.Prelude.{Ok, Err}
 use Rattle.sl_outside.specs.Folder.{Contents}
-use Rattle.sl_run.proofs.Puts.{printed-puts}
 use Rattle.sl_tool.specs.declared.status.Status.TheVariants as status
 use Rattle.sl_plain.specs.declared.tree.Plain.{Plain}
 use Rattle.sl_text.specs.declared.rule.Rule.{Rule}
 use Rattle.sl_tool.specs.SourceFiles.{SourceFile, sources_of, first_broken_of, program_of}
-use Rattle.sl_plain.specs.Means.{plain_run}
 use Rattle.sl_words.specs.Words.{Command, files_of}
 use Rattle.sl_words.specs.WordsReading.{command_of}
-use Rattle.sl_tool.specs.Texts.{usage_line, broken_line, no_file_line, not_built_line, exit_value_line}
-use Rattle.sl_tool.specs.Answer.{answer_of, answer_to, answer_to_files, answer_to_sources, answer_to_program, answer_to_plain, rejected, ran}
+use Rattle.sl_tool.specs.Texts.{usage_line, broken_line, no_file_line, not_built_line}
+use Rattle.sl_tool.specs.Answer.{answer_of, answer_to, answer_to_files, answer_to_sources, answer_to_program, answer_to_plain, rejected}
 
 -- words with no command
 pub answer_usage : (words : List (List ℕ)) (files : Contents) (input : List ℕ) → command_of words ≡ None → answer_of words files input ≡ rejected status.Usage usage_line files input

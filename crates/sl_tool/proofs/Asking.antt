@@ -2,13 +2,12 @@
 use Rattle.std.proofs.Common.{◌≡◌, ℕ, zero, suc, ◌+◌, ◌<◌, List, [], ◌∷◌, ◌++◌, length, get_or, take, drop, Option, Some, None, Bool, true, false, ◌≤◌, ◌^◌, refl, sym, ap, ◌∙◌, subst, inl, inr, arith, Bor}
 use Rattle.std.specs.Prelude.{IfSome, Result, Ok, Err, IsErrAnd, nat_lt}
 use Rattle.std.proofs.lemmas.Bool.{ltb-true, ltb-false}
-use Rattle.std.specs.List.{All}
 use Rattle.std.proofs.lemmas.List.{append_assoc, map-append, take_more}
-use Rattle.std.proofs.lemmas.List.Elements.{All-append, All-cons, All-nil, All-head, All-tail, All-map}
+use Rattle.std.proofs.lemmas.List.Elements.{All-append, All-cons, All-nil, All-head}
 use Rattle.sl_outside.specs.declared.folder.Refused.{Refused}
 use Rattle.sl_outside.specs.declared.folder.Refused.TheVariants as refused
 use Rattle.sl_outside.specs.Counts.{one_more}
-use Rattle.sl_outside.specs.Folder.{Contents, FolderCall, ReadCall, GoesOn, FolderState}
+use Rattle.sl_outside.specs.Folder.{Contents, FolderCall, ReadCall, GoesOn, ReadGives, FolderState}
 use Rattle.sl_text.specs.declared.rule.Rule.{Rule}
 use Rattle.sl_outside.specs.Source.{SourceState}
 use Rattle.sl_outside.specs.Sink.{SinkState}
@@ -21,7 +20,7 @@ use Rattle.sl_plain.specs.Reach.{IsInReach}
 use Rattle.sl_plain.proofs.Reached.{in_reach}
 use Rattle.sl_tool.specs.Accepting.{IsAccepted, greatest_length, lexical}
 use Rattle.sl_tool.specs.declared.stop.Stop.TheVariants as stop
-use Rattle.sl_tool.specs.SourceFiles.{SourceFile, AreSources, AreAccepted, IsThere}
+use Rattle.sl_tool.specs.SourceFiles.{SourceFile, AreSources, AreAccepted}
 use Rattle.sl_words.specs.WordsReading.{names_seen}
 use Rattle.sl_tool.specs.Stopping.{stop_of}
 use Rattle.sl_tool.specs.Promise.{more_calls, reads_of, AskedAll, AskedUpTo}
@@ -48,33 +47,16 @@ calls_for_one_more : (names : List (List ℕ)) (name : List ℕ) (calls : ℕ) �
 calls_for_one_more [] name calls = refl
 calls_for_one_more (first ∷ names) name calls = calls_for_one_more names name (one_more calls)
 
--- the file of a source is there
-pub sources_there : (held : Contents) (names : List (List ℕ)) (sources : List SourceFile) → AreSources held names sources → All (λ name. IsThere held name) names
-sources_there held names sources are =
-    subst (λ names. All (λ name. IsThere held name) names) are.named
-    (All-map (λ name. IsThere held name) (λ source. source.name) sources (at sources are.held))
-  where
-    at : (sources : List SourceFile) → All (λ source. held source.name ≡ Some source.bytes) sources → All (λ source. IsThere held source.name) sources
-    at [] all = All-nil (λ source. IsThere held source.name)
-    at (source ∷ sources) all =
-        All-cons (λ source. IsThere held source.name) source sources
-        (source.bytes, All-head (λ source. held source.name ≡ Some source.bytes) source sources all)
-        (at sources (All-tail (λ source. held source.name ≡ Some source.bytes) source sources all))
-
 -- all names were asked for
-pub asked_all : (names : List (List ℕ)) (sources : List SourceFile) (before after : FolderState) → FindsSources names sources before after → AskedAll names before after
+abbrev pub asked_all : (names : List (List ℕ)) (sources : List SourceFile) (before after : FolderState) → FindsSources names sources before after → AskedAll names before after
 asked_all names sources before after finds = record {
   calls = finds.calls;
   unchanged = finds.unchanged;
-  there = at before.files finds.told;
   sources = sources;
   named = finds.named;
+  told = finds.told;
   log = finds.log;
 }
-  where
-    at : (told : Option Contents) → IfSome told (λ held. AreSources held names sources) → IfSome told (λ held. All (λ name. IsThere held name) names)
-    at None h = tt
-    at (Some held) are = sources_there held names sources are
 
 -- a source behind others
 one_more_source : (held : Contents) (names : List (List ℕ)) (sources : List SourceFile) (name bytes : List ℕ) → AreSources held names sources → held name ≡ Some bytes → AreSources held (names ++ name ∷ []) (sources ++ record { name = name; bytes = bytes } ∷ [])
@@ -89,6 +71,7 @@ one_more_source held names sources name bytes are is = record {
 pub record ReadOne (name : List ℕ) (answer : Result (Option (List ℕ)) Refused) (before after : FolderState) : Type 0 where
   pub calls : after.calls ≡ one_more before.calls
   pub unchanged : after.files ≡ before.files
+  pub gives : ReadGives before.files name answer
   pub log : GoesOn before.log after.log (ReadCall name answer ∷ [])
 
 module _ (earlier : List (List ℕ)) (sources : List SourceFile) (name : List ℕ) (before between after : FolderState) (finds : FindsSources earlier sources before between) where
@@ -116,9 +99,10 @@ module _ (earlier : List (List ℕ)) (sources : List SourceFile) (name : List �
     order = order;
     calls = call.calls ∙ (ap one_more finds.calls ∙ sym (more_one (length earlier) before.calls));
     unchanged = call.unchanged ∙ finds.unchanged;
-    there = (asked_all earlier sources before between finds).there;
     sources = sources;
     named = finds.named;
+    told = finds.told;
+    answered = subst (λ files. ReadGives files name answer) finds.unchanged call.gives;
     log = goes_on before.log between.log after.log (reads_of sources) (ReadCall name answer ∷ []) finds.log call.log;
   }
 

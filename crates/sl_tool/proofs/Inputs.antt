@@ -1,10 +1,10 @@
 -- What askings leave of an input, one after another.
-use Rattle.std.proofs.Common.{◌≡◌, ℕ, ◌+◌, zero, suc, ◌<◌, ◌≤◌, List, [], ◌∷◌, ◌++◌, length, take, drop, map, Option, Some, None, refl, sym, ap, ◌∙◌, subst, append_assoc}
+use Rattle.std.proofs.Common.{◌≡◌, ℕ, ◌+◌, zero, suc, ◌≤◌, List, [], ◌∷◌, ◌++◌, length, take, drop, map, Option, Some, None, refl, sym, ap, ◌∙◌, subst, append_assoc}
 use Rattle.std.specs.Prelude.{Result, Ok, Err}
 use Rattle.std.proofs.lemmas.List.{take-append-drop, drop-drop, length-append, length-map}
 use Rattle.sl_outside.specs.declared.source.Failed.{Failed}
 use Rattle.sl_outside.specs.Counts.{Rose}
-use Rattle.sl_outside.specs.Source.{NextGives, SourceState, Asked, Reads}
+use Rattle.sl_outside.specs.Source.{NextGives, SourceState, Reads}
 use Rattle.sl_run.specs.Run.{Event}
 use Rattle.sl_run.specs.Outcome.{Outcome, printed, asked, BeginsWith}
 use Rattle.sl_run.proofs.Puts.{asked-append}

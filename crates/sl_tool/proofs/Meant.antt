@@ -1,5 +1,5 @@
 -- The text that is written is C that means the program.
-use Rattle.std.proofs.Common.{◌≡◌, ℕ, List, [], ◌∷◌, refl, sym, ap, ◌∙◌, subst}
+use Rattle.std.proofs.Common.{◌≡◌, ℕ, List, [], refl, sym, ap, ◌∙◌, subst}
 use Rattle.std.specs.Prelude.{IfOk, Result, Ok, Err}
 use Rattle.sl_text.specs.declared.fault.Mem.{Mem}
 use Rattle.c_tree.specs.declared.tree.CFile.{CFile}

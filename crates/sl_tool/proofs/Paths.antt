@@ -2,13 +2,14 @@
 use Rattle.std.proofs.Common.{◌≡◌, ℕ, ◌+◌, ◌≤◌, ◌<◌, Bool, List, [], ◌∷◌, ◌++◌, Option, Some, None, true, false, refl, sym, ap, ◌∙◌, subst, inl, inr, append-nil, append_assoc, arith}
 use Rattle.std.specs.Prelude.{◌⊎◌, pos, negsuc, nat_le, if◌then◌else◌, IfSome, Result, Ok, Err}
 use Rattle.std.proofs.lemmas.Bool.{leb-true}
+use Rattle.sl_outside.specs.declared.folder.Refused.{Refused}
 use Rattle.sl_outside.specs.declared.folder.Refused.TheVariants as refused
 use Rattle.sl_outside.specs.declared.source.Failed.{Failed}
 use Rattle.sl_outside.specs.Counts.{Rose, HasCause}
 use Rattle.sl_outside.specs.Folder.{Contents, FolderState}
 use Rattle.sl_outside.specs.Source.{SourceState}
 use Rattle.sl_outside.specs.Sink.{IsPrefix, SinkState, Put, Tried, Prints, PrintsUpTo}
-use Rattle.sl_run.specs.Run.{Event, Puts, Asks, Ending, Halt, TurnsSpent, Stuck}
+use Rattle.sl_run.specs.Run.{Event, Puts, Asks, Halt}
 use Rattle.sl_run.specs.Outcome.{Outcome, printed, BeginsWith}
 use Rattle.sl_run.proofs.Puts.{printed-append}
 use Rattle.c_machine.specs.Outside.{AsksInput}
@@ -23,7 +24,6 @@ use Rattle.sl_plain.specs.declared.tree.Plain.{Plain}
 use Rattle.sl_plain.specs.Means.{plain_run}
 use Rattle.c_machine.specs.declared.ending.End.{End}
 use Rattle.c_machine.specs.declared.ending.End.TheVariants as end
-use Rattle.c_machine.specs.declared.ending.StepFault.TheVariants as fault
 use Rattle.c_machine.specs.Stepped.{ending_of}
 use Rattle.sl_text.specs.declared.rule.Rule.{Rule}
 use Rattle.sl_tool.specs.SourceFiles.{SourceFile}
@@ -32,16 +32,16 @@ use Rattle.sl_words.specs.Words.{Command, Run, Emit, files_of, Reads, BeginsNoCo
 use Rattle.sl_words.specs.WordsReading.{command_of}
 use Rattle.sl_tool.specs.Texts.{emitted_line, usage_line, broken_line, no_file_line, folder_fault_line, input_fault_line, output_fault_line, no_memory_line, not_built_line, turns_spent_line, exit_value_line}
 use Rattle.sl_tool.specs.Answer.{Answer, answer_of, answer_to_plain, ran, rejected, run_status, run_line, c_name}
-use Rattle.sl_tool.specs.Outside.{Outside, IsTold}
-use Rattle.sl_tool.specs.Promise.{IsUnlessMemory, HoldsPlain, Did, IsFinal, Finished, WroteC, Emits, EndsWith, AsksForNoFile, AsksForBroken, Cause, HidesNoFault, CountsGrow, GoesNoFurther, AskedAll, AskedAndWrote, Stopped, Done, Went, RunDid, EmitDid, Acts, IsLineOf, Noted, Promise}
-use Rattle.sl_tool.specs.Parts.{FindsMissing, FindsBroken, FindsAccepted, StopsFor, Tells, is_folder_fault, RanProgram, IsDefined, RunsFiles, WritesC, TellsC, EmitsFiles, MakesAndTells, TellsAs, TellsEnd, TellsStop}
+use Rattle.sl_tool.specs.Outside.{Outside, IsTold, NoteRose}
+use Rattle.sl_tool.specs.Promise.{IsUnlessMemory, HaveProgram, HoldsPlain, Did, IsFinal, Finished, WroteC, Emits, EndsWith, AsksForNoFile, AsksForBroken, Cause, HidesNoFault, CountsGrow, GoesNoFurther, AskedAndWrote, ReadBroken, ReadProgram, Stopped, Done, Went, RunDid, EmitDid, Acts, IsLineOf, Noted, Promise}
+use Rattle.sl_tool.specs.Parts.{FindsMissing, FindsBroken, FindsAccepted, StopsFor, Tells, is_folder_fault, IsDefined, RunsFiles, WritesProgram, WritesC, TellsC, EmitsFiles, MakesAndTells, TellsAs, TellsEnd, TellsStop}
 use Rattle.sl_words.proofs.Reading.{command_of_reading, reading_of_command, no_reading, begins_none}
-use Rattle.sl_tool.proofs.Sources.{missing_found, missing_is_none, sources_found, found_accepted, found_broken, found_program, found_no_program}
+use Rattle.sl_tool.proofs.Sources.{missing_found, sources_found, found_accepted, found_broken, found_program, found_no_program}
 use Rattle.sl_tool.proofs.Answering.{answer_usage, answer_broken, answer_no_file, answer_not_built, answer_plain}
 use Rattle.sl_tool.proofs.Noting.{each_some, prefix_whole, prefix_none, gave, gave_prefix, try_calm, tell_ends, tell_calm, tell_grows, try_grows, stays_grown}
 use Rattle.sl_outside.proofs.Printing.{prints_refused}
 use Rattle.sl_tool.proofs.Printing.{printed_whole, printed_prefix, printed_calm, printed_rose}
-use Rattle.sl_tool.proofs.Told.{told_files, files_told, input_of, input_told, told_is, still_told}
+use Rattle.sl_tool.proofs.Told.{told_files, files_told, input_of, input_told, still_told}
 use Rattle.sl_tool.proofs.Asking.{asked_all}
 use Rattle.sl_tool.proofs.ToldSources.{Accepted, told_missing, told_broken, told_accepted}
 use Rattle.sl_tool.proofs.Inputs.{asks_left, asks_calm, asks_rose, takes_front}
@@ -104,6 +104,11 @@ module _ (words : List (List ℕ)) (folder folder' : FolderState) (source source
   note_told : (meant status : Status) → Ends meant status → note.faults < note'.faults → IsUnlessMemory status SinkFault ⊎ (status ≡ NotBuilt)
   note_told meant status (inl h) lt = absurd (let same : note'.faults ≡ note.faults = h.1 in omega arith)
   note_told meant status (inr h) lt = inl (inl h.0)
+
+  -- the line of 64 was told, or refused
+  usage_or_fault : (status : Status) → Ends Usage status → (status ≡ Usage) ⊎ ((status ≡ SinkFault) × NoteRose before after)
+  usage_or_fault status (inl h) = inl h.0
+  usage_or_fault status (inr h) = inr h
 
   -- a fact of the status that was meant, and of the fault
   by_end : (P : Status → Type 0) (meant status : Status) → Ends meant status → P meant → (Rose note.faults note'.faults → P SinkFault) → P status
@@ -184,7 +189,7 @@ module _ (words : List (List ℕ)) (folder folder' : FolderState) (source source
             (by_end (λ s. Cause words files input before after s) Usage status ends unread inr)
             (subst (λ meant. Settles before after meant status) (sym (ap (λ answer. answer.status) e))
             (by_end (λ s. Settles before after Usage s) Usage status ends (inl (inl refl)) inr))
-            (λ _ calm. (tell_calm Usage status usage_line note note' tells calm).1)
+            (λ _. usage_or_fault status ends)
             (hides_note status calm_folder (dry_of unasked) sink (note_told Usage status ends))
             (grows (no_call idle) (asks_none unasked) (stays_grown out.faults out'.faults sink) (tell_grows Usage status usage_line note note' tells))
             (stands_still files input is_left unasked still)
@@ -330,7 +335,7 @@ module _ (words : List (List ℕ)) (folder folder' : FolderState) (source source
               (hides_note NotBuilt (cause.stayed refl) (dry_of unasked) sink (λ lt. inr refl))
               (grows cause (asks_none unasked) (stays_grown out.faults out'.faults sink) (try_grows _ note note' tried))
               (stands_still files input is_left unasked still)
-              (acts files input (answer_of words files input) NotBuilt (does_stopped files input (answer_of words files input) command NotBuilt asked unasked same))
+              (acts files input (answer_of words files input) NotBuilt (does_stopped files input (answer_of words files input) command NotBuilt (asked, found_accepted finds.sources finds.accepted, found_no_program finds.sources finds.program_is) unasked same))
               tried,
         )
 
@@ -372,10 +377,9 @@ module _ (words : List (List ℕ)) (folder folder' : FolderState) (source source
         let line = no_file_line name in
         let asks : AsksForNoFile words files name = (command, reads, told.missing) in
         let is_line : IsLineOf words files input NoFile line = (name, asks, refl) in
-        let none = missing_is_none files (files_of command) name told.missing in
         told_promise files NoFile status line told.is_told (answer_no_file words files input command name is_read (missing_found files (files_of command) name told.missing)) is_line (λ put. (line, is_line, put))
         (name, asks) inr (nothing_emitted files NoFile (λ value e. absurd (cc e)) (λ e. absurd (cc e)))
-        (name, none, finds.asked) (λ rose. (rose, inr (name, none, finds.asked))) finds.asked.unchanged unasked same cause tells
+        (name, told.missing, finds.asked) (λ rose. (rose, inr (name, told.missing, finds.asked))) finds.asked.unchanged unasked same cause tells
 
     -- a source breaks a rule
     broken_promise : (name : List ℕ) (rule : Rule) (status : Status) → FindsBroken (files_of command) name rule folder folder' → source' ≡ source → out' ≡ out → HasCause false folder.faults folder'.faults → Tells (broken_line name 1 1 rule) Broken note note' status → Promise words before after status
@@ -387,10 +391,11 @@ module _ (words : List (List ℕ)) (folder folder' : FolderState) (source source
         let broken : SourceFile = record { name = name; bytes = finds.bytes } in
         let asks : AsksForBroken words files broken rule 0 = (told.sources, (command, reads, told.are), found_broken told.sources broken rule told.broken) in
         let is_line : IsLineOf words files input Broken line = (broken, rule, 0, asks, refl) in
-        let asked = asked_all (files_of command) finds.sources folder folder' finds.finds in
+        let read : ReadBroken (files_of command) files folder folder' =
+        (asked_all (files_of command) finds.sources folder folder' finds.finds, (told.sources, broken, rule, 0, told.are, found_broken told.sources broken rule told.broken, found_broken finds.sources broken rule finds.broken)) in
         told_promise files Broken status line told.is_told (answer_broken words files input command told.sources broken rule is_read (sources_found files (files_of command) told.sources told.are) told.broken) is_line (λ put. (line, is_line, put))
         (broken, rule, 0, asks) inr (nothing_emitted files Broken (λ value e. absurd (cc e)) (λ e. absurd (cc e)))
-        asked (λ rose. (rose, inl (asked, (told.sources, broken, rule, 0, told.are, found_broken told.sources broken rule told.broken)))) asked.unchanged unasked same cause tells
+        read (λ rose. (rose, inl read)) finds.finds.unchanged unasked same cause tells
 
     -- the same of a status that is this one
     at_status : (meant status : Status) → status ≡ meant → Promise words before after meant → Promise words before after status
@@ -436,7 +441,7 @@ module _ (words : List (List ℕ)) (folder folder' : FolderState) (source source
     -- a program that was found
     module _ (program : Plain) (told : Accepted folder.files (files_of command) (Some program)) where
       held : HoldsPlain told.files (files_of command) program
-      held = (told.sources, told.are, found_accepted told.sources told.accepted, found_program told.sources program told.program_is)
+      held = (told.sources, told.are, (found_accepted told.sources told.accepted, found_program told.sources program told.program_is))
 
       answers_plain : (input : List ℕ) → answer_of words told.files input ≡ answer_to_plain command program told.files input
       answers_plain input = answer_plain words told.files input command told.sources program is_read (sources_found told.files (files_of command) told.sources told.are) told.accepted told.program_is
@@ -461,8 +466,8 @@ module _ (words : List (List ℕ)) (folder folder' : FolderState) (source source
       holds : HoldsPlain told.files names program
       holds = held command_run is_read program told
 
-      all_asked : AskedAll names folder folder'
-      all_asked = asked_all names finds.sources folder folder' finds.finds
+      is_read_so : ReadProgram names program folder folder'
+      is_read_so = (asked_all names finds.sources folder folder' finds.finds, (found_accepted finds.sources finds.accepted, found_program finds.sources program finds.program_is))
 
       -- the words don't ask for C
       runs_only : (status : Status) → Emits words told.files before after status
@@ -498,7 +503,7 @@ module _ (words : List (List ℕ)) (folder folder' : FolderState) (source source
             subst (λ answer. Did answer before after status) (sym answers)
             (record {
               same_status = same;
-              files = still_told folder.files folder'.files told.files told.is_told all_asked.unchanged;
+              files = still_told folder.files folder'.files told.files told.is_told finds.finds.unchanged;
               out = each_some out.held _ (λ held g. printed_whole (printed run.events) out out' held g done.put);
               note = noted;
               rest = rest;
@@ -523,7 +528,7 @@ module _ (words : List (List ℕ)) (folder folder' : FolderState) (source source
                   (hides_note (Exit value) (cause.stayed refl) dry calm (λ lt. absurd (omega arith)))
                   (grows cause (stays_grown source.faults source'.faults dry) (stays_grown out.faults out'.faults calm) (omega arith, omega arith))
                   stands_all
-                  (acts command_run is_read told.files input (answer_of words told.files input) (Exit value) (inr (program, holds, all_asked, done)))
+                  (acts command_run is_read told.files input (answer_of words told.files input) (Exit value) (inr (program, holds, is_read_so, done)))
                   quiet,
             )
 
@@ -531,7 +536,7 @@ module _ (words : List (List ℕ)) (folder folder' : FolderState) (source source
         line_memory_promise : Tried no_memory_line note note' → Promise words before after Memory
         line_memory_promise tried =
             memory_at (begins command_run is_read) told.files input told.is_told is_left dry calm stands_all cause
-            (acts command_run is_read told.files input (answer_of words told.files input) Memory (inr (program, holds, all_asked, (run.events, ([], sym (append-nil run.events)), done))))
+            (acts command_run is_read told.files input (answer_of words told.files input) Memory (inr (program, holds, is_read_so, (run.events, ([], sym (append-nil run.events)), done))))
             tried
 
         -- the program ended so, which has this status and its line
@@ -555,7 +560,7 @@ module _ (words : List (List ℕ)) (folder folder' : FolderState) (source source
                   (grows cause (stays_grown source.faults source'.faults dry) (stays_grown out.faults out'.faults calm) (tell_grows meant status line note note' tells))
                   stands_all
                   (acts command_run is_read told.files input (answer_of words told.files input) status
-                  (inr (program, holds, all_asked, by_end (λ s. Went input run before after s) meant status ends (given done) (λ rose. inr (rose, done)))))
+                  (inr (program, holds, is_read_so, by_end (λ s. Went input run before after s) meant status ends (given done) (λ rose. inr (rose, done)))))
                   (noted_told told.files input meant status line is_line noted tells),
             )
 
@@ -628,7 +633,7 @@ module _ (words : List (List ℕ)) (folder folder' : FolderState) (source source
                 (record { folder = λ lt. absurd (let same : folder'.faults ≡ folder.faults = cause.stayed refl in omega arith); input = λ _ _. refl; out = λ _ dry _. absurd (dry rose); note = λ _ dry _. absurd (dry rose) })
                 (grows cause (failed.1, failed.2) (stays_grown out.faults out'.faults calm) (try_grows _ note note' tried))
                 (stands_front events (printed events) (Ok tt) (Err (record {})) shorter (whole.0, whole.1 ∙ ap (λ front. front ++ whole.0) (append-nil (printed events))) prints asks)
-                (acts command_run is_read told.files input (answer_of words told.files input) InputFault (inr (program, holds, all_asked, (events, begins_so, prints, asks))))
+                (acts command_run is_read told.files input (answer_of words told.files input) InputFault (inr (program, holds, is_read_so, (events, begins_so, prints, asks))))
                 tried,
           )
 
@@ -642,7 +647,7 @@ module _ (words : List (List ℕ)) (folder folder' : FolderState) (source source
           (stands_front events (printed events ++ byte ∷ []) (Err (record {})) (Ok tt) shorter (front_printed events (byte ∷ []) (Puts byte ∷ []) begins_so (printed-append events (Puts byte ∷ []))) prints asks)
           (subst (λ answer. Excused before after answer.status) (sym answers) (run_yields before after run.ending (inr (inr failed.0))))
           failed.0 (failed.1, failed.2) cause (runs_only SinkFault)
-          (inr (program, holds, all_asked, inl (events, byte, begins_so, refused, asks)))
+          (inr (program, holds, is_read_so, inl (events, byte, begins_so, refused, asks)))
           tried
 
       -- memory ran out in the run
@@ -651,7 +656,7 @@ module _ (words : List (List ℕ)) (folder folder' : FolderState) (source source
           let whole = front_printed events [] [] (begins_so.0, begins_so.1 ∙ ap (λ front. front ++ begins_so.0) (sym (append-nil events))) (ap printed (append-nil events) ∙ sym (append-nil (printed events))) in
           memory_at (begins command_run is_read) told.files input told.is_told is_left (asks_calm input events source source' asks) (printed_calm (printed events) out out' prints)
           (stands_front events (printed events) (Ok tt) (Ok tt) begins_so (whole.0, whole.1 ∙ ap (λ front. front ++ whole.0) (append-nil (printed events))) prints asks) cause
-          (acts command_run is_read told.files input (answer_of words told.files input) Memory (inr (program, holds, all_asked, (events, begins_so, record { put = prints; got = asks }))))
+          (acts command_run is_read told.files input (answer_of words told.files input) Memory (inr (program, holds, is_read_so, (events, begins_so, record { put = prints; got = asks }))))
           tried
 
     -- the program was run to its end
@@ -706,6 +711,12 @@ module _ (words : List (List ℕ)) (folder folder' : FolderState) (source source
           is_c = text_is_c program is_tree is_text;
         }
 
+    -- what was read before the write is one plain file with the program
+    read_before : (program : Plain) {result : Result (Unit {0}) Refused} → (writes : WritesProgram name names program folder folder' result) → HaveProgram writes.wrote.sources program
+    read_before program writes =
+        subst (λ sources. HaveProgram sources program) (sym writes.same)
+        (found_accepted writes.finds.sources writes.finds.accepted, found_program writes.finds.sources program writes.finds.program_is)
+
     -- the C was written and told
     pub emit_promise : TellsC name names folder folder' out out' (Ok tt) → source' ≡ source → HasCause false folder.faults folder'.faults → note' ≡ note → Promise words before after (Exit 0)
     emit_promise tells unasked cause quiet =
@@ -742,7 +753,7 @@ module _ (words : List (List ℕ)) (folder folder' : FolderState) (source source
               (hides_note (Exit 0) (cause.stayed refl) (dry_of unasked) calm (λ lt. absurd (omega arith)))
               (grows cause (asks_none unasked) (stays_grown out.faults out'.faults calm) (omega arith, omega arith))
               (line_prefix input program told (Ok tt) is_left unasked tells.told)
-              (acts command is_read files input (answer_of words files input) (Exit 0) (inr ((program, plain, tells.writes.wrote), subst (λ answer. Put answer.out out out' (Ok tt)) (sym e) tells.told), unasked))
+              (acts command is_read files input (answer_of words files input) (Exit 0) (inr ((program, plain, tells.writes.wrote, read_before program tells.writes), subst (λ answer. Put answer.out out out' (Ok tt)) (sym e) tells.told), unasked))
               quiet,
         )
 
@@ -759,20 +770,20 @@ module _ (words : List (List ℕ)) (folder folder' : FolderState) (source source
         (subst (λ answer. Excused before after answer.status) (sym e) (inr (inr rose)))
         rose (tells.told.cause.no_lower, tells.told.cause.by_one) cause
         (emits told.files SinkFault (wrote_c_of program told tells.writes.wrote tells.is_tree tells.is_text) (λ value e. absurd (cc e)))
-        (inr ((program, held command is_read program told, tells.writes.wrote), subst (λ answer. Put answer.out out out' (Err (record {}))) (sym e) tells.told), unasked)
+        (inr ((program, held command is_read program told, tells.writes.wrote, read_before program tells.writes), subst (λ answer. Put answer.out out out' (Err (record {}))) (sym e) tells.told), unasked)
         tried
 
     -- the write was refused
     write_fault_promise : WritesC name names folder folder' (Err refused.Failed) → source' ≡ source → out' ≡ out → HasCause true folder.faults folder'.faults → Tried folder_fault_line note note' → Promise words before after FolderFault
     write_fault_promise (program, writes) unasked same cause tried =
         let told = told_accepted writes.finds in
-        folder_promise command is_read told.files told.is_told unasked same cause (inr ((program, held command is_read program told, writes.wrote), same), unasked) tried
+        folder_promise command is_read told.files told.is_told unasked same cause (inr ((program, held command is_read program told, writes.wrote, read_before program writes), same), unasked) tried
 
     -- memory ran out in the write
     write_memory_promise : WritesC name names folder folder' (Err refused.Mem) → source' ≡ source → out' ≡ out → HasCause false folder.faults folder'.faults → Tried no_memory_line note note' → Promise words before after Memory
     write_memory_promise (program, writes) unasked same cause tried =
         let told = told_accepted writes.finds in
-        memory_promise command is_read told.files told.is_told unasked same cause (inr ((program, held command is_read program told, writes.wrote), same), unasked) tried
+        memory_promise command is_read told.files told.is_told unasked same cause (inr ((program, held command is_read program told, writes.wrote, read_before program writes), same), unasked) tried
 
     -- the C was not written, or not told
     pub refused_promise : (why : Stop) (status : Status) → EmitsFiles name names folder folder' out out' (Err why) → source' ≡ source → HasCause (is_folder_fault {A = Unit {0}} (Err why)) folder.faults folder'.faults → TellsStop why note note' status → Promise words before after status

@@ -15,17 +15,17 @@ use Rattle.sl_plain.specs.Means.{plain_run}
 use Rattle.sl_words.specs.Words.{Command, Run, Emit, files_of, Reads, BeginsNoCommand}
 use Rattle.sl_words.specs.WordsReading.{command_of}
 use Rattle.sl_tool.specs.Texts.{usage_line, broken_line, no_file_line, not_built_line}
-use Rattle.sl_tool.specs.Answer.{Answer, answer_of, answer_to_plain, rejected, ran, exit_status, run_status}
+use Rattle.sl_tool.specs.Answer.{Answer, answer_of, answer_to_plain, rejected, ran, run_status}
 use Rattle.sl_tool.specs.Outside.{Outside, FolderRose, InputRose, OutRose, NoteRose}
 use Rattle.sl_tool.specs.Promise.{IsUnlessMemory, HoldsPlain, Did, Complete, Finished, RanAs, Runs, Emits, ends_with, Cause, Comes, HidesNoFault, CountsGrow, GoesNoFurther, Acts, Noted, Keeps}
 use Rattle.sl_words.proofs.Reading.{command_of_reading, no_command}
-use Rattle.sl_tool.proofs.Sources.{missing_found, sources_found, accepted_found, broken_found, program_found, found_program, no_program_found}
+use Rattle.sl_tool.proofs.Sources.{missing_found, sources_found, accepted_found, broken_found, program_found, no_program_found}
 use Rattle.sl_plain.proofs.Rest.{rest_is}
 use Rattle.sl_tool.proofs.Answering.{answer_usage, answer_broken, answer_no_file, answer_not_built, answer_plain}
 
 -- the answer to a plain file
 pub answer_held : (words : List (List ℕ)) (files : Contents) (input : List ℕ) (command : Command) (program : Plain) → command_of words ≡ Some command → HoldsPlain files (files_of command) program → answer_of words files input ≡ answer_to_plain command program files input
-answer_held words files input command program reads (sources, are, accepted, plain) =
+answer_held words files input command program reads (sources, are, (accepted, plain)) =
     answer_plain words files input command sources program reads (sources_found files (files_of command) sources are) (accepted_found sources accepted) (program_found sources program plain)
 
 -- what holds of each answer holds of the one to these words
@@ -152,7 +152,7 @@ module _ (words : List (List ℕ)) (files : Contents) (input : List ℕ) (before
       at (inr memory) = inr memory
 
   -- where a cause stands, its status comes
-  comes : Settles before after (answer_of words files input).status status → (BeginsNoCommand words → ¬ NoteRose before after → status ≡ Usage) → Comes words files input before after status
+  comes : Settles before after (answer_of words files input).status status → (BeginsNoCommand words → (status ≡ Usage) ⊎ ((status ≡ SinkFault) × NoteRose before after)) → Comes words files input before after status
   comes all at_once = record {
     at_once = at_once;
     usage = λ none calm. settled before after Usage status calm (meant Usage (ap (λ answer. answer.status) (answer_usage words files input (no_command words none))));
@@ -183,7 +183,7 @@ module _ (words : List (List ℕ)) (files : Contents) (input : List ℕ) (before
       ended command program reads held = ap (λ answer. answer.status) (answer_held words files input command program (command_of_reading words command reads) held) ∙ gives_status command program files input
 
   -- the whole promise, of its parts
-  pub keeps : Complete words files input before after status → Finished words files input before after status → Emits words files before after status → Cause words files input before after status → Settles before after (answer_of words files input).status status → (BeginsNoCommand words → ¬ NoteRose before after → status ≡ Usage) → HidesNoFault before after status → CountsGrow before after → GoesNoFurther (answer_of words files input) input before after → Acts words files input (answer_of words files input) before after status → Noted words files input before after status → Keeps words files input before after status
+  pub keeps : Complete words files input before after status → Finished words files input before after status → Emits words files before after status → Cause words files input before after status → Settles before after (answer_of words files input).status status → (BeginsNoCommand words → (status ≡ Usage) ⊎ ((status ≡ SinkFault) × NoteRose before after)) → HidesNoFault before after status → CountsGrow before after → GoesNoFurther (answer_of words files input) input before after → Acts words files input (answer_of words files input) before after status → Noted words files input before after status → Keeps words files input before after status
   keeps complete finished emits cause all at_once hides counts stands acts noted = record {
     complete = complete;
     finished = finished;

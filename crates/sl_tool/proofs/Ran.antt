@@ -3,7 +3,6 @@ use Rattle.std.proofs.Common.{◌≡◌, ℕ, List, [], refl, sym, ap, ◌∙◌
 use Rattle.std.specs.Prelude.{None, Result, Ok, Err}
 use Rattle.sl_outside.specs.Source.{SourceState}
 use Rattle.sl_outside.specs.Sink.{SinkState}
-use Rattle.sl_run.specs.Run.{Ending, Stuck}
 use Rattle.sl_run.specs.Outcome.{Outcome}
 use Rattle.c_machine.specs.declared.ending.End.{End}
 use Rattle.c_machine.specs.declared.ending.StepFault.{StepFault}
@@ -12,7 +11,6 @@ use Rattle.c_machine.specs.declared.configuration.Configuration.{Configuration}
 use Rattle.c_machine.specs.declared.machine.Machine.{Machine}
 use Rattle.c_machine.specs.declared.machine.Standing.{Standing}
 use Rattle.c_machine.specs.declared.machine.Standing.TheVariants.{Going, Ended, Failed}
-use Rattle.c_machine.specs.Stepped.{ending_of}
 use Rattle.c_machine.specs.Outside.{outside}
 use Rattle.c_machine.specs.Ran.{ComesTo, Opened, Runs}
 use Rattle.c_machine.specs.Ran as machine

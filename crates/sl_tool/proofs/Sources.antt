@@ -2,7 +2,7 @@
 use Rattle.std.proofs.Common.{◌≡◌, ℕ, List, [], ◌∷◌, ◌++◌, Option, Some, None, refl, sym, ap, ap₂, ◌∙◌, subst}
 use Rattle.std.specs.Prelude.{Ok, Err}
 use Rattle.std.specs.List.{All}
-use Rattle.std.proofs.lemmas.List.Elements.{All-nil, All-cons, All-head, All-tail}
+use Rattle.std.proofs.lemmas.List.Elements.{All-nil, All-cons, All-head, All-tail, All-map}
 use Rattle.sl_outside.specs.Folder.{Contents}
 use Rattle.sl_text.specs.declared.rule.Rule.{Rule}
 use Rattle.sl_plain.specs.declared.tree.Plain.{Plain}
@@ -24,10 +24,6 @@ missing_found files names name (earlier, later, order, there, none) = ap (source
     at (other ∷ earlier) all =
         let is = All-head (λ other. IsThere files other) other earlier all in
         ap₂ (λ found rest. with_source other found rest) is.1 (at earlier (All-tail (λ other. IsThere files other) other earlier all))
-
--- and it has nothing
-pub missing_is_none : (files : Contents) (names : List (List ℕ)) (name : List ℕ) → IsFirstMissing files names name → files name ≡ None
-missing_is_none files names name (earlier, later, order, there, none) = none
 
 -- the sources are found
 pub sources_found : (files : Contents) (names : List (List ℕ)) (sources : List SourceFile) → AreSources files names sources → sources_of files names ≡ Ok sources
@@ -103,3 +99,16 @@ no_program_found sources none = at (program_of sources) refl
 -- and where none is found, they aren't one plain file
 pub found_no_program : (sources : List SourceFile) → program_of sources ≡ None → (program : Plain) → ¬ ArePlain sources program
 found_no_program sources none program plain = let some : program_of sources ≡ Some program = program_found sources program plain in cc
+
+-- the file of a source is there
+pub sources_there : (held : Contents) (names : List (List ℕ)) (sources : List SourceFile) → AreSources held names sources → All (λ name. IsThere held name) names
+sources_there held names sources are =
+    subst (λ names. All (λ name. IsThere held name) names) are.named
+    (All-map (λ name. IsThere held name) (λ source. source.name) sources (at sources are.held))
+  where
+    at : (sources : List SourceFile) → All (λ source. held source.name ≡ Some source.bytes) sources → All (λ source. IsThere held source.name) sources
+    at [] all = All-nil (λ source. IsThere held source.name)
+    at (source ∷ sources) all =
+        All-cons (λ source. IsThere held source.name) source sources
+        (source.bytes, All-head (λ source. held source.name ≡ Some source.bytes) source sources all)
+        (at sources (All-tail (λ source. held source.name ≡ Some source.bytes) source sources all))

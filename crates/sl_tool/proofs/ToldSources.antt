@@ -1,7 +1,6 @@
 -- The files that a folder tells, or that it can be taken to have where it tells nothing, with the sources that were found.
 use Rattle.std.proofs.Common.{◌≡◌, ℕ, List, [], ◌∷◌, ◌++◌, map, Bool, true, false, cond, Option, Some, None, refl, sym, ap, ap₂, ◌∙◌, subst}
 use Rattle.std.specs.Prelude.{IfSome}
-use Rattle.std.specs.List.{All}
 use Rattle.std.specs.Str.{bytes_eq}
 use Rattle.std.proofs.lemmas.Slice.Eq.{bytes_eq-Decides}
 use Rattle.std.proofs.lemmas.List.Elements.{All-nil, All-cons}
@@ -13,7 +12,7 @@ use Rattle.sl_tool.specs.SourceFiles.{SourceFile, names_of, AreSources, IsThere,
 use Rattle.sl_tool.specs.Outside.{IsTold}
 use Rattle.sl_tool.specs.Parts.{Finds, FindsMissing, FindsBroken, FindsAccepted}
 use Rattle.sl_tool.proofs.Accepted.{first_found}
-use Rattle.sl_tool.proofs.Sources.{same_parts, found_broken}
+use Rattle.sl_tool.proofs.Sources.{same_parts, found_broken, sources_there}
 
 -- contents that have this under one name, and these bytes under every other
 abbrev only : List ℕ → Option (List ℕ) → List ℕ → Contents
@@ -45,18 +44,18 @@ pub record Missing (told : Option Contents) (names : List (List ℕ)) (name : Li
   pub missing : IsFirstMissing files names name
 
 pub told_missing : {names : List (List ℕ)} {name : List ℕ} {before after : FolderState} → FindsMissing names name before after → Missing before.files names name
-told_missing {names = names} {name = name} {before = before} finds = at before.files finds.asked.there finds.missing
+told_missing {names = names} {name = name} {before = before} finds = at before.files finds.asked.told finds.missing
   where
-    at : (told : Option Contents) → IfSome told (λ held. All (λ other. IsThere held other) finds.asked.earlier) → Finds told name None → Missing told names name
-    at None there none = record {
+    at : (told : Option Contents) → IfSome told (λ held. AreSources held finds.asked.earlier finds.asked.sources) → Finds told name None → Missing told names name
+    at None are none = record {
       files = only name None [];
       is_told = tt;
       missing = subst (λ names. IsFirstMissing (only name None []) names name) (sym finds.asked.order) (missing_of finds.asked.earlier finds.asked.later name);
     }
-    at (Some held) there none = record {
+    at (Some held) are none = record {
       files = held;
       is_told = refl;
-      missing = (finds.asked.earlier, finds.asked.later, finds.asked.order, there, none);
+      missing = (finds.asked.earlier, finds.asked.later, finds.asked.order, sources_there held finds.asked.earlier finds.asked.sources are, none);
     }
 
 -- the files, where a source breaks a rule

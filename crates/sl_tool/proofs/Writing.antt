@@ -48,10 +48,12 @@ program_written name names program before read after target sent result finds on
         (subst (λ bytes. WriteGives read.files after.files (c_name name) bytes result) sends (subst (λ name. WriteGives read.files after.files name sent result) named gives));
     sources = finds.sources;
     named = finds.finds.named;
+    told = finds.finds.told;
     log =
         goes_on before.log read.log after.log (reads_of finds.sources) (WriteCall (c_name name) (written program) result ∷ []) finds.finds.log
         (subst (λ bytes. GoesOn read.log after.log (WriteCall (c_name name) bytes result ∷ [])) sends (subst (λ name. GoesOn read.log after.log (WriteCall name sent result ∷ [])) named goes));
   };
+  same = refl;
 }
 
 -- a write that was refused stops `emit` for what it was refused for

@@ -1,5 +1,5 @@
 -- The tool as one function: what a call answers and leaves where nothing fails and memory is enough.
-use Rattle.std.specs.Prelude.{ℕ, ℤ, pos, negsuc, List, [], ◌++◌, Option, Some, None, Result, Ok, Err, nat_le, if◌then◌else◌, codes}
+use Rattle.std.specs.Prelude.{ℕ, ℤ, pos, negsuc, ◌≤◌, List, [], ◌++◌, Option, Some, None, Result, Ok, Err, nat_le, ◌==◌, if◌then◌else◌, codes}
 use Rattle.std.specs.Str.{bytes_eq}
 use Rattle.sl_outside.specs.Folder.{Contents}
 use Rattle.sl_run.specs.Run.{Ending, Done, Halt, TurnsSpent, StackSpent, Stuck}
@@ -33,6 +33,31 @@ code_of status.InputFault = 74
 code_of status.SinkFault = 75
 code_of status.Memory = 76
 code_of status.NotBuilt = 77
+
+-- the status that the exit status of a process tells
+abbrev pub status_of : ℕ → Option Status
+status_of code =
+    if nat_le code 63 then Some (status.Exit code)
+    else if code == 64 then Some status.Usage
+    else if code == 65 then Some status.Broken
+    else if code == 66 then Some status.Halted
+    else if code == 67 then Some status.TurnsSpent
+    else if code == 68 then Some status.StackSpent
+    else if code == 69 then Some status.ExitValue
+    else if code == 70 then Some status.NotC
+    else if code == 71 then Some status.Stuck
+    else if code == 72 then Some status.NoFile
+    else if code == 73 then Some status.FolderFault
+    else if code == 74 then Some status.InputFault
+    else if code == 75 then Some status.SinkFault
+    else if code == 76 then Some status.Memory
+    else if code == 77 then Some status.NotBuilt
+    else None
+
+-- an exit value of a status is 0 to 63
+abbrev pub HasExitValue : Status → Type 0
+HasExitValue (status.Exit value) = value ≤ 63
+HasExitValue other = Unit {0}
 
 -- a call's status, the files after it, the bytes that it put on `out` and on `note`, and the rest of the input
 pub record Answer : Type 0 where

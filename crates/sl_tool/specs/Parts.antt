@@ -20,7 +20,6 @@ use Rattle.sl_tool.specs.SourceFiles.{SourceFile, names_of, AreSources, first_br
 use Rattle.sl_run.specs.Run.{Stuck, Event, Puts, Asks}
 use Rattle.sl_tool.specs.Written.{tree_of, written, IsTreeOf}
 use Rattle.c_machine.specs.declared.ending.End.{End}
-use Rattle.c_machine.specs.declared.ending.End.TheVariants as end
 use Rattle.c_machine.specs.declared.ending.StepFault.{StepFault}
 use Rattle.c_machine.specs.declared.ending.StepFault.TheVariants as fault
 use Rattle.c_machine.specs.Stepped.{ending_of}
@@ -152,6 +151,7 @@ pub record WritesProgram (name : List ℕ) (names : List (List ℕ)) (program : 
   pub read : FolderState
   pub finds : FindsAccepted names (Some program) before read
   pub wrote : AskedAndWrote names (c_name name) (written program) result before after
+  pub same : wrote.sources ≡ finds.sources
 
 -- some program was read, and then its C was written
 abbrev pub WritesC : List ℕ → List (List ℕ) → FolderState → FolderState → Result (Unit {0}) Refused → Type 0

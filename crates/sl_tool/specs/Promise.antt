@@ -2,12 +2,11 @@
 -- folder tells that it holds, and `input` what the input tells that it has left. Of a folder or an input that tells nothing, the
 -- promise is that it holds of some `files` and some `input`. Of an output that tells nothing of its bytes, nothing is said but
 -- its counts of faults and of calls.
-use Rattle.std.specs.Prelude.{◌≡◌, ◌⊎◌, ℕ, ◌+◌, zero, suc, pos, ◌<◌, ◌≤◌, List, [], ◌∷◌, ◌++◌, length, map, Option, Some, None, IfSome, Result, Ok, Err}
-use Rattle.std.specs.List.{All}
+use Rattle.std.specs.Prelude.{◌≡◌, ◌⊎◌, ℕ, ◌+◌, zero, suc, ◌<◌, ◌≤◌, List, [], ◌∷◌, ◌++◌, length, map, Option, Some, None, IfSome, Result, Ok, Err}
 use Rattle.sl_outside.specs.declared.folder.Refused.{Refused}
 use Rattle.sl_outside.specs.declared.folder.Refused.TheVariants as refused
 use Rattle.sl_outside.specs.Counts.{one_more}
-use Rattle.sl_outside.specs.Folder.{Contents, FolderCall, ReadCall, WriteCall, GoesOn, WriteGives, FolderState}
+use Rattle.sl_outside.specs.Folder.{Contents, FolderCall, ReadCall, WriteCall, GoesOn, ReadGives, WriteGives, FolderState}
 use Rattle.c_machine.specs.Outside.{AsksInput}
 use Rattle.sl_outside.specs.Sink.{IsPrefix, SinkState, Put, Tried, Prints, PrintsUpTo}
 use Rattle.sl_run.specs.Run.{Event, Puts, Asks}
@@ -22,7 +21,7 @@ use Rattle.sl_tool.specs.declared.status.Status.TheVariants.{Exit, Usage, Broken
 use Rattle.sl_plain.specs.declared.tree.Plain.{Plain}
 use Rattle.sl_text.specs.declared.rule.Rule.{Rule}
 use Rattle.sl_tool.specs.Accepting.{line_at, column_at}
-use Rattle.sl_tool.specs.SourceFiles.{SourceFile, names_of, AreSources, IsThere, IsFirstMissing, AreAccepted, IsFirstBrokenOf, ArePlain}
+use Rattle.sl_tool.specs.SourceFiles.{SourceFile, names_of, AreSources, IsFirstMissing, AreAccepted, IsFirstBrokenOf, ArePlain}
 use Rattle.sl_plain.specs.Means.{plain_run}
 use Rattle.sl_tool.specs.Written.{written}
 use Rattle.sl_words.specs.Words.{Command, Run, Emit, files_of, Reads, HasNoReading, BeginsNoCommand}
@@ -34,9 +33,13 @@ use Rattle.sl_tool.specs.Outside.{Outside, IsTold, FolderRose, InputRose, OutRos
 abbrev pub IsUnlessMemory : Status → Status → Type 0
 IsUnlessMemory status meant = (status ≡ meant) ⊎ (status ≡ Memory)
 
+-- the sources are one plain file, with this program, that breaks no rule
+abbrev pub HaveProgram : List SourceFile → Plain → Type 0
+HaveProgram sources program = AreAccepted sources × ArePlain sources program
+
 -- the files have under these names one plain file, with this program, that breaks no rule
 abbrev pub HoldsPlain : Contents → List (List ℕ) → Plain → Type 0
-HoldsPlain files names program = (sources : List SourceFile) × AreSources files names sources × AreAccepted sources × ArePlain sources program
+HoldsPlain files names program = (sources : List SourceFile) × AreSources files names sources × HaveProgram sources program
 
 -- Complete ------------------------------------------------------------------------------------------------------------
 
@@ -161,10 +164,10 @@ Cause words files input before after NotC = ⊥
 Cause words files input before after Stuck = ⊥
 
 -- and where its cause stands the status comes, but for want of memory and for a fault on the way. That the first word isn't that of
--- a command takes no memory to see
+-- a command takes no memory to see, and neither does the line of 64 to be put
 pub record Comes (words : List (List ℕ)) (files : Contents) (input : List ℕ) (before after : Outside) (status : Status) : Type 0 where
   pub usage : HasNoReading words → ¬ NoteRose before after → IsUnlessMemory status Usage
-  pub at_once : BeginsNoCommand words → ¬ NoteRose before after → status ≡ Usage
+  pub at_once : BeginsNoCommand words → (status ≡ Usage) ⊎ ((status ≡ SinkFault) × NoteRose before after)
   pub no_file : (name : List ℕ) → AsksForNoFile words files name → ¬ FolderRose before after → ¬ NoteRose before after → IsUnlessMemory status NoFile
   pub broken : (source : SourceFile) (rule : Rule) (place : ℕ) → AsksForBroken words files source rule place → ¬ FolderRose before after → ¬ NoteRose before after → IsUnlessMemory status Broken
   pub not_built : AsksForUnbuilt words files → ¬ FolderRose before after → IsUnlessMemory status NotBuilt
@@ -210,27 +213,28 @@ more_calls (suc more) calls = more_calls more (one_more calls)
 abbrev pub reads_of : List SourceFile → List FolderCall
 reads_of sources = map (λ source. ReadCall source.name (Ok (Some source.bytes))) sources
 
--- The folder was called once for each of these names, in order, to read it, and no file changed. All of them are there, where the
--- folder tells its files; and each was found, where it tells its calls
+-- The folder was called once for each of these names, in order, to read it, and no file changed. `sources` is what was read: the
+-- folder's own files, where it tells them, and what it answered, where it tells its calls
 pub record AskedAll (names : List (List ℕ)) (before after : FolderState) : Type 0 where
   pub calls : after.calls ≡ more_calls (length names) before.calls
   pub unchanged : after.files ≡ before.files
-  pub there : IfSome before.files (λ held. All (λ name. IsThere held name) names)
   pub sources : List SourceFile
   pub named : names_of sources ≡ names
+  pub told : IfSome before.files (λ held. AreSources held names sources)
   pub log : GoesOn before.log after.log (reads_of sources)
 
--- The folder was called once for each of these names up to this one, in order, to read it, and no file changed. All before it are
--- there, where the folder tells its files; and each of them was found, and this one answered so, where it tells its calls
+-- The folder was called once for each of these names up to this one, in order, to read it, and no file changed. `sources` is what was
+-- read before this one: the folder's own files, where it tells them, and what it answered, where it tells its calls. So is the answer
 pub record AskedUpTo (names : List (List ℕ)) (name : List ℕ) (answer : Result (Option (List ℕ)) Refused) (before after : FolderState) : Type 0 where
   pub earlier : List (List ℕ)
   pub later : List (List ℕ)
   pub order : names ≡ earlier ++ name ∷ later
   pub calls : after.calls ≡ more_calls (suc (length earlier)) before.calls
   pub unchanged : after.files ≡ before.files
-  pub there : IfSome before.files (λ held. All (λ other. IsThere held other) earlier)
   pub sources : List SourceFile
   pub named : names_of sources ≡ earlier
+  pub told : IfSome before.files (λ held. AreSources held earlier sources)
+  pub answered : ReadGives before.files name answer
   pub log : GoesOn before.log after.log (reads_of sources ++ ReadCall name answer ∷ [])
 
 -- a read that didn't fail
@@ -245,29 +249,48 @@ AskedForSome names before after =
     AskedAll names before after ⊎ ((name : List ℕ) × (answer : Result (Option (List ℕ)) Refused) × IsNoFault answer × AskedUpTo names name answer before after)
 
 -- The folder was called once for each of these names, in order, to read it, and then to write these bytes under this name, which
--- it answered so
+-- it answered so. `sources` is what was read, as in `AskedAll`
 pub record AskedAndWrote (names : List (List ℕ)) (name bytes : List ℕ) (result : Result (Unit {0}) Refused) (before after : FolderState) : Type 0 where
   pub calls : after.calls ≡ one_more (more_calls (length names) before.calls)
   pub gives : WriteGives before.files after.files name bytes result
   pub sources : List SourceFile
   pub named : names_of sources ≡ names
+  pub told : IfSome before.files (λ held. AreSources held names sources)
   pub log : GoesOn before.log after.log (reads_of sources ++ WriteCall name bytes result ∷ [])
 
--- the files have sources under these names, and one of them breaks a rule
-abbrev pub HoldsBroken : Contents → List (List ℕ) → Type 0
-HoldsBroken files names =
-    (sources : List SourceFile) × (source : SourceFile) × (rule : Rule) × (place : ℕ) × AreSources files names sources × IsFirstBrokenOf sources source rule place
+-- the files have sources under these names, and one of them breaks a rule. The first that does is the first that does of what was
+-- read, and both break the same rule first
+abbrev pub HoldsBroken : Contents → List (List ℕ) → (read : List SourceFile) → Type 0
+HoldsBroken files names read =
+    (sources : List SourceFile) × (source : SourceFile) × (rule : Rule) × (place : ℕ)
+    × AreSources files names sources × IsFirstBrokenOf sources source rule place × IsFirstBrokenOf read source rule place
+
+-- the names were asked for up to one that isn't there. It is the first of the files that isn't there
+abbrev pub ReadMissing : List (List ℕ) → Contents → FolderState → FolderState → Type 0
+ReadMissing names files before after = (name : List ℕ) × IsFirstMissing files names name × AskedUpTo names name (Ok None) before after
+
+-- all names were asked for, and what was read breaks a rule
+abbrev pub ReadBroken : List (List ℕ) → Contents → FolderState → FolderState → Type 0
+ReadBroken names files before after = (asked : AskedAll names before after) × HoldsBroken files names asked.sources
+
+-- all names were asked for, and what was read breaks no rule and isn't one plain file
+abbrev pub ReadUnbuilt : List (List ℕ) → FolderState → FolderState → Type 0
+ReadUnbuilt names before after = (asked : AskedAll names before after) × AreAccepted asked.sources × ((program : Plain) → ¬ ArePlain asked.sources program)
+
+-- all names were asked for, and what was read is one plain file with this program, that breaks no rule
+abbrev pub ReadProgram : List (List ℕ) → Plain → FolderState → FolderState → Type 0
+ReadProgram names program before after = (asked : AskedAll names before after) × HaveProgram asked.sources program
 
 -- how the names were asked for where the command stopped before it ran or wrote anything, by the status. The folder isn't called
 -- where memory runs out in reading the words
 abbrev pub Stopped : List (List ℕ) → Contents → Outside → Outside → Status → Type 0
-Stopped names files before after Broken = AskedAll names before.folder after.folder
-Stopped names files before after NotBuilt = AskedAll names before.folder after.folder
-Stopped names files before after NoFile = (name : List ℕ) × (files name ≡ None) × AskedUpTo names name (Ok None) before.folder after.folder
+Stopped names files before after Broken = ReadBroken names files before.folder after.folder
+Stopped names files before after NotBuilt = ReadUnbuilt names before.folder after.folder
+Stopped names files before after NoFile = ReadMissing names files before.folder after.folder
 Stopped names files before after FolderFault = (name : List ℕ) × AskedUpTo names name (Err refused.Failed) before.folder after.folder
 Stopped names files before after SinkFault =
     NoteRose before after
-    × ((AskedAll names before.folder after.folder × HoldsBroken files names) ⊎ ((name : List ℕ) × (files name ≡ None) × AskedUpTo names name (Ok None) before.folder after.folder))
+    × (ReadBroken names files before.folder after.folder ⊎ ReadMissing names files before.folder after.folder)
 Stopped names files before after Memory = (after.folder ≡ before.folder) ⊎ AskedForSome names before.folder after.folder
 Stopped names files before after other = ⊥
 
@@ -294,16 +317,17 @@ Went input run before after Memory = (events : List Event) × BeginsWith run eve
 Went input run before after other = ⊥
 
 -- what `run` did to the outside: it stopped before it ran anything, or it asked for all its files, which are one plain file, and then
--- ran its program
+-- ran its program, which is that of what was read too
 abbrev pub RunDid : (turns : ℕ) → List (List ℕ) → Contents → List ℕ → Outside → Outside → Status → Type 0
 RunDid turns names files input before after status =
     (Stopped names files before after status × (after.out ≡ before.out) × (after.input ≡ before.input))
-    ⊎ ((program : Plain) × HoldsPlain files names program × AskedAll names before.folder after.folder × Went input (plain_run program input turns) before after status)
+    ⊎ ((program : Plain) × HoldsPlain files names program × ReadProgram names program before.folder after.folder × Went input (plain_run program input turns) before after status)
 
--- `emit` asked for all its files and then wrote the C of their program, which the folder answered so
+-- `emit` asked for all its files and then wrote the C of their program, which is that of what was read too, and the folder answered so
 abbrev pub Wrote : List ℕ → List (List ℕ) → Contents → Result (Unit {0}) Refused → Outside → Outside → Type 0
 Wrote name names files result before after =
-    (program : Plain) × HoldsPlain files names program × AskedAndWrote names (c_name name) (written program) result before.folder after.folder
+    (program : Plain) × HoldsPlain files names program
+    × (wrote : AskedAndWrote names (c_name name) (written program) result before.folder after.folder) × HaveProgram wrote.sources program
 
 -- How `emit` wrote the C, by one call, and then put its line on `out`, by one call, by the status. Where the write was refused,
 -- nothing was put, and the folder may have left anything under that name for a fault, and has changed nothing for want of memory

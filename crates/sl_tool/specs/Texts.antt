@@ -2,6 +2,9 @@
 use Rattle.std.specs.Prelude.{ℕ, ℤ, List, [], ◌++◌, length, unwrap_or, slice_get, ◌==◌, if◌then◌else◌, codes}
 use Rattle.std.specs.Fmt.{decimal, signed_decimal}
 use Rattle.sl_text.specs.declared.rule.Rule.{Rule}
+use Rattle.sl_num.specs.declared.arithmetic.Halt.TheVariants.{Range, Zero}
+use Rattle.sl_core.specs.Meaning.{halt_number}
+use Rattle.sl_plain.specs.Means.{assert_halt, halt_halt}
 use Rattle.sl_text.specs.Rules.{rule_text}
 
 -- `emit`: the name of the file that was written, and how many bytes it has
@@ -16,13 +19,13 @@ usage_line = codes "usage: check, emit, run, step, stack or sample\n"
 abbrev pub broken_line : List ℕ → ℕ → ℕ → Rule → List ℕ
 broken_line file line column rule = file ++ (codes ":" ++ (decimal line ++ (codes ":" ++ (decimal column ++ (codes ": " ++ (rule_text rule ++ codes "\n"))))))
 
--- the kind of a halt, by its number
+-- the kind of a halt, by the number that the meaning of programs gives it
 abbrev pub halt_kind : ℕ → List ℕ
 halt_kind kind =
-    if kind == 1 then codes "Assert"
-    else if kind == 2 then codes "Halt"
-    else if kind == 3 then codes "Range"
-    else if kind == 4 then codes "Zero"
+    if kind == assert_halt then codes "Assert"
+    else if kind == halt_halt then codes "Halt"
+    else if kind == halt_number Range then codes "Range"
+    else if kind == halt_number Zero then codes "Zero"
     else []
 
 -- 66: the run halted, at this line of this file

@@ -1,5 +1,5 @@
-ghost use Rattle.std.specs.Prelude.{◌≡◌};
-ghost use Rattle.sl_tool.specs.Answer.{code_of};
+ghost use Rattle.std.specs.Prelude.{◌≡◌, Some};
+ghost use Rattle.sl_tool.specs.Answer.{HasExitValue, code_of, status_of};
 
 /// How a call of the tool ended.
 #[derive(Clone, Copy, Debug, PartialEq, Eq)]
@@ -37,9 +37,10 @@ pub enum Status {
 }
 
 impl Status {
-    /// The exit status of the process.
+    /// The exit status of the process. It tells the status.
     pub fn code(&self) -> u8
-        ensures { result ≡ code_of self.now }
+        ensures value { result ≡ code_of self.now }
+        ensures tells { HasExitValue self.now → status_of result ≡ Some self.now }
     {
         match self {
             Status::Exit(value) => *value,

@@ -4,8 +4,6 @@ use Rattle.sl_outside.specs.Sink.{sink_state}
 use Rattle.sl_outside.specs.Source.{source_state}
 use Rattle.sl_words.specs.Words.{Run, Emit, BeginsNoCommand}
 use Rattle.sl_words.specs.WordsReading.{command_of, names_seen}
-use Rattle.sl_tool.specs.Outside.{outside}
-use Rattle.sl_tool.specs.Promise.{Promise}
 use Rattle.sl_tool.proofs.Paths.{usage_promise, words_memory_promise, end_promise, stop_promise, emit_promise, refused_promise}
 use Rattle.sl_tool.proofs.slang.Goals as goal
 

@@ -1,4 +1,4 @@
-use Rattle.std.proofs.Common.{[], inr}
+use Rattle.std.proofs.Common.{inr}
 use Rattle.std.specs.Prelude.{Ok, Err}
 use Rattle.sl_outside.specs.Folder.{folder_state}
 use Rattle.sl_outside.specs.Source.{source_state}

@@ -1,10 +1,9 @@
-use Rattle.std.proofs.Common.{◌≡◌, ◌∙◌, subst, sym, ap, refl}
+use Rattle.std.proofs.Common.{subst, sym, ap}
 use Rattle.sl_outside.specs.Sink.{sink_state}
 use Rattle.sl_words.specs.WordsReading.{names_seen}
 use Rattle.sl_tool.specs.Parts.{TellsEnd, MakesAndTells}
-use Rattle.sl_tool.specs.Texts.{file_name, halt_line}
+use Rattle.sl_tool.specs.Texts.{halt_line}
 use Rattle.sl_tool.specs.declared.status.Status.TheVariants as status
-use Rattle.c_machine.specs.declared.ending.End.TheVariants as end
 use Rattle.c_machine.specs.Stepped.{ending_of}
 use Rattle.sl_tool.proofs.telling.tell_end.Goals as goal
 
