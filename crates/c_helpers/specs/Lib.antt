@@ -2,6 +2,5 @@
 
 -- the inline functions, as C trees
 pub mod Functions
-
 -- what calls of them give
 pub mod Laws

@@ -2,6 +2,5 @@
 
 -- how a broken rule prints (`rule_text`)
 pub mod Rules
-
 -- `Shared` as a type that may hold the type that holds it
 pub mod formers

@@ -2,27 +2,19 @@
 
 -- which rules a source breaks, and where (`Breaks`, `IsFirstBroken`)
 pub mod Accepting
-
 -- the files of a command as sources (`AreSources`, `IsFirstBrokenOf`, `ArePlain`)
 pub mod SourceFiles
-
 -- the C of a plain program (`tree_of`, `written`)
 pub mod Written
-
 -- the lines of the tool
 pub mod Texts
-
 -- the tool as one function (`answer_of`), and the numbers of statuses (`code_of`)
 pub mod Answer
-
 -- the outside before and after a call
 pub mod Outside
-
 -- what a call of `slang` promises (`Promise`, with the fields of `Keeps`)
 pub mod Promise
-
 -- what a refused call of the folder stops a command for
 pub mod Stopping
-
 -- what the private functions owe
 pub mod Parts
