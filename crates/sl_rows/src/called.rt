@@ -29,38 +29,45 @@ pub type Answer<'a> = (u8, &'a [u8], &'a [u8]);
 /// A name, and what the folder is then to have under it, or nothing.
 pub type Left<'a> = (&'a str, Option<&'a [u8]>);
 
-/// What a call answered and left.
+/// What a call of the tool is made on.
+#[derive(Drop)]
+struct Outside {
+    folder: MemoryFolder,
+    input: MemorySource,
+    out: MemorySink,
+    note: MemorySink,
+}
+
+/// What a call answered, and what it left.
 #[derive(Drop)]
 pub struct Called {
     code: u8,
-    out: MemorySink,
-    note: MemorySink,
-    folder: MemoryFolder,
+    left: Outside,
 }
 
 impl Called {
     /// The status, and how many bytes are on `out`.
     pub fn size(&self) -> (u8, usize) {
-        (self.code, self.out.bytes().len())
+        (self.code, self.left.out.bytes().len())
     }
 
     /// Whether the call answered so.
     fn told(&self, answer: Answer<'_>) -> bool {
         let (code, out, note) = answer;
-        self.code == code && self.out.bytes() == out && self.note.bytes() == note
+        self.code == code && self.left.out.bytes() == out && self.left.note.bytes() == note
     }
 
     /// Whether the next call of the folder fails. Where the number of the call that is to fail is one more than the tool should
     /// have made, this says that it made just so many.
     fn next_fails(&mut self, alloc: Global) -> bool {
-        self.folder.read(alloc, "").is_err()
+        self.left.folder.read(alloc, "").is_err()
     }
 
     /// What the folder then has under a name. A call that was to fail and wasn't made yet is made first.
     pub fn under(&mut self, alloc: Global, name: &str) -> Result<Option<Row<u8>>, Fail> {
-        match self.folder.read(alloc, name) {
+        match self.left.folder.read(alloc, name) {
             Ok(found) => Ok(found),
-            Err(_) => Ok(self.folder.read(alloc, name)?),
+            Err(_) => Ok(self.left.folder.read(alloc, name)?),
         }
     }
 
@@ -138,6 +145,37 @@ pub fn call(
     call_on(alloc, words, files, failing, input)
 }
 
+/// What such a call is made on.
+fn prepare(
+    alloc: Global,
+    files: &[(&str, &[u8])],
+    failing: Failing,
+    input: MemorySource,
+) -> Result<Outside, Fail> {
+    let folder = folder(alloc, files, failing[0])?;
+    let out = sink(alloc, failing[1])?;
+    let note = sink(alloc, failing[2])?;
+    Ok(Outside {
+        folder,
+        input,
+        out,
+        note,
+    })
+}
+
+/// Calls it there, and gives its exit status.
+fn act(alloc: Global, words: &Vec<String>, on: &mut Outside) -> u8 {
+    slang(
+        alloc,
+        words,
+        &mut on.folder,
+        &mut on.input,
+        &mut on.out,
+        &mut on.note,
+    )
+    .code()
+}
+
 /// Calls it with this input.
 fn call_on(
     alloc: Global,
@@ -146,18 +184,10 @@ fn call_on(
     failing: Failing,
     input: MemorySource,
 ) -> Result<Called, Fail> {
-    let mut input = input;
     let words = owned(alloc, words)?;
-    let mut folder = folder(alloc, files, failing[0])?;
-    let mut out = sink(alloc, failing[1])?;
-    let mut note = sink(alloc, failing[2])?;
-    let status = slang(alloc, &words, &mut folder, &mut input, &mut out, &mut note);
-    Ok(Called {
-        code: status.code(),
-        out,
-        note,
-        folder,
-    })
+    let mut left = prepare(alloc, files, failing, input)?;
+    let code = act(alloc, &words, &mut left);
+    Ok(Called { code, left })
 }
 
 // A test calls the functions below once for each row of its table. What the proof of the tests costs is a few seconds for each

@@ -77,77 +77,93 @@ fn with(alloc: Global, stmt: Stmt) -> Result<Program, AllocError> {
     program(alloc, body)
 }
 
+/// Whether a run of a program in so many turns, on this input and an output with this much room, answers so, puts these bytes, takes
+/// so many turns, and answers the same again to one more step on another output, on which it puts nothing.
+fn comes_to(
+    alloc: Global,
+    program: Program,
+    turns: u64,
+    input: &[u8],
+    room: u32,
+    wanted: (Result<End, StepFault>, &[u8], u64),
+) -> Result<bool, Fail> {
+    let mut machine = Machine::begin(alloc, program, turns)?;
+    let mut input = SureSource::new(Row::from_slice(alloc, input)?);
+    let mut out = MemorySink::new(alloc, room, Row::new(alloc))?;
+    let came = machine.run(alloc, &mut input, &mut out) == wanted.0;
+    let taken = machine.report().turns;
+    Ok(
+        came && out.bytes() == wanted.1
+            && taken == wanted.2
+            && stays(alloc, &mut machine, &mut input, wanted.0)?,
+    )
+}
+
+/// Whether a machine answers this to one more step, which puts nothing.
+fn stays(
+    alloc: Global,
+    machine: &mut Machine,
+    input: &mut SureSource,
+    wanted: Result<End, StepFault>,
+) -> Result<bool, Fail> {
+    let mut out = MemorySink::new(alloc, 8, Row::new(alloc))?;
+    let answer = machine.step(alloc, input, &mut out);
+    Ok(answer == wanted.map(State::Ended) && out.bytes().is_empty())
+}
+
 #[test]
 fn a_call_puts_and_gives(rt: HostRuntime) -> Result<(), Fail> {
     let alloc = rt.alloc();
-    let mut machine = Machine::begin(alloc, calling(alloc)?, 3)?;
-    let mut input = SureSource::new(Row::new(alloc));
-    let mut out = MemorySink::new(alloc, 8, Row::new(alloc))?;
-    assert!(rt; machine.run(alloc, &mut input, &mut out) == Ok(End::Done(7)));
-    assert_eq!(rt; out.bytes(), b"A".as_slice());
-    assert_eq!(rt; machine.report().turns, 1);
-    assert!(rt; machine.step(alloc, &mut input, &mut out) == Ok(State::Ended(End::Done(7))));
-    assert_eq!(rt; out.bytes(), b"A".as_slice());
+    let wanted = (Ok(End::Done(7)), b"A".as_slice(), 1);
+    assert!(rt; comes_to(alloc, calling(alloc)?, 3, b"", 8, wanted)?);
     Ok(())
 }
 
 #[test]
 fn a_call_needs_a_turn(rt: HostRuntime) -> Result<(), Fail> {
     let alloc = rt.alloc();
-    let mut machine = Machine::begin(alloc, calling(alloc)?, 0)?;
-    let mut input = SureSource::new(Row::new(alloc));
-    let mut out = MemorySink::new(alloc, 8, Row::new(alloc))?;
-    assert!(rt; machine.run(alloc, &mut input, &mut out) == Ok(End::TurnsSpent));
-    assert_eq!(rt; out.bytes(), b"".as_slice());
-    assert_eq!(rt; machine.report().turns, 0);
+    let wanted = (Ok(End::TurnsSpent), b"".as_slice(), 0);
+    assert!(rt; comes_to(alloc, calling(alloc)?, 0, b"", 8, wanted)?);
     Ok(())
 }
 
 #[test]
 fn a_loop_gets_bytes_up_to_the_end(rt: HostRuntime) -> Result<(), Fail> {
     let alloc = rt.alloc();
-    let mut machine = Machine::begin(alloc, copying(alloc)?, 3)?;
-    let mut input = SureSource::new(Row::from_slice(alloc, b"ab")?);
-    let mut out = MemorySink::new(alloc, 8, Row::new(alloc))?;
-    assert!(rt; machine.run(alloc, &mut input, &mut out) == Ok(End::Done(-1)));
-    assert_eq!(rt; out.bytes(), b"ab".as_slice());
-    assert_eq!(rt; machine.report().turns, 3);
+    let wanted = (Ok(End::Done(-1)), b"ab".as_slice(), 3);
+    assert!(rt; comes_to(alloc, copying(alloc)?, 3, b"ab", 8, wanted)?);
     Ok(())
 }
 
 #[test]
 fn a_counted_loop_takes_no_turn(rt: HostRuntime) -> Result<(), Fail> {
     let alloc = rt.alloc();
-    let mut machine = Machine::begin(alloc, counting(alloc)?, 0)?;
-    let mut input = SureSource::new(Row::new(alloc));
-    let mut out = MemorySink::new(alloc, 8, Row::new(alloc))?;
-    assert!(rt; machine.run(alloc, &mut input, &mut out) == Ok(End::Done(2)));
-    assert_eq!(rt; out.bytes(), [0, 1].as_slice());
+    let wanted = (Ok(End::Done(2)), [0, 1].as_slice(), 0);
+    assert!(rt; comes_to(alloc, counting(alloc)?, 0, b"", 8, wanted)?);
     Ok(())
 }
 
 #[test]
-fn a_halt_and_an_undefined_case_end_a_run(rt: HostRuntime) -> Result<(), Fail> {
+fn a_halt_ends_a_run(rt: HostRuntime) -> Result<(), Fail> {
     let alloc = rt.alloc();
-    let mut input = SureSource::new(Row::new(alloc));
-    let mut out = MemorySink::new(alloc, 8, Row::new(alloc))?;
-    let mut halting = Machine::begin(alloc, with(alloc, Stmt::Halt(1, 2, 3))?, 9)?;
-    assert!(rt; halting.run(alloc, &mut input, &mut out) == Ok(End::Halt(1, 2, 3)));
+    let wanted = (Ok(End::Halt(1, 2, 3)), b"".as_slice(), 0);
+    assert!(rt; comes_to(alloc, with(alloc, Stmt::Halt(1, 2, 3))?, 9, b"", 8, wanted)?);
+    Ok(())
+}
+
+#[test]
+fn an_undefined_case_ends_a_run(rt: HostRuntime) -> Result<(), Fail> {
+    let alloc = rt.alloc();
     let unwritten = Stmt::Return(Some(Expr::Read(Slot::Local(0), true)));
-    let mut stuck = Machine::begin(alloc, with(alloc, unwritten)?, 9)?;
-    assert!(rt; stuck.run(alloc, &mut input, &mut out) == Ok(End::Stuck(0)));
+    let wanted = (Ok(End::Stuck(0)), b"".as_slice(), 0);
+    assert!(rt; comes_to(alloc, with(alloc, unwritten)?, 9, b"", 8, wanted)?);
     Ok(())
 }
 
 #[test]
 fn a_refused_put_is_told_again(rt: HostRuntime) -> Result<(), Fail> {
     let alloc = rt.alloc();
-    let mut machine = Machine::begin(alloc, calling(alloc)?, 3)?;
-    let mut input = SureSource::new(Row::new(alloc));
-    let mut full = MemorySink::new(alloc, 0, Row::new(alloc))?;
-    assert!(rt; machine.run(alloc, &mut input, &mut full) == Err(StepFault::Sink));
-    let mut out = MemorySink::new(alloc, 8, Row::new(alloc))?;
-    assert!(rt; machine.step(alloc, &mut input, &mut out) == Err(StepFault::Sink));
-    assert_eq!(rt; out.bytes(), b"".as_slice());
+    let wanted = (Err(StepFault::Sink), b"".as_slice(), 1);
+    assert!(rt; comes_to(alloc, calling(alloc)?, 3, b"", 0, wanted)?);
     Ok(())
 }
