@@ -29,7 +29,9 @@ def check(product, source, count):
         found = product.slangc("run", f"--turns={turns}", "a.scala", data=data)
         product.compare(f"plain program {number}", found, wanted, "a.scala")
         if compiler and wanted[1] != 67 and number % 4 == 0:
-            product.compare(f"emit of plain program {number}", product.slangc("emit", "-o", "b", "a.scala")[1:], (0, b""), "a.scala")
+            line, status, note = product.slangc("emit", "-o", "b", "a.scala")
+            told = f"b.c {len(product.read('b.c') or b'')} bytes\n".encode()
+            product.compare(f"emit of plain program {number}", (line, status, note), (told, 0, b""), "a.scala")
             product.call(compiler, "-std=c11", "-w", "-fsanitize=undefined", "-fno-sanitize-recover=all", "-o", "b", "b.c")
             printed, ended, _ = product.call("./b", data=data)
             product.compare(f"C of plain program {number}", (printed, ended), (wanted[0], ended if wanted[1] == 69 else wanted[1]), "b.c")
