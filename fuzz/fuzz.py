@@ -1,11 +1,12 @@
 #!/usr/bin/env python3
 """Attacks slangc from outside, with expectations that are computed here, apart from it.
 
-fuzz/fuzz.py [--seed S] [--count N] [programs] [files] [words] [streams] [memory]: all five where none is named. From the seed S (1 where it
-isn't given) N (400) random plain programs are run and each fourth is compiled with `cc -fsanitize=undefined`; N random files are run,
-most of them plain files with a few changes; N random command lines are called; streams and files of the system fail in every way
-that is listed; and each allocation of some calls is refused in turn. Each call must give the status, the standard output and the standard error that are expected, and nothing may end by a
-signal. The last line is the count of calls and how many differed; the exit status is 1 where one did. It isn't part of the gate.
+fuzz/fuzz.py [--seed S] [--count N] [programs] [files] [words] [streams] [memory]: all five where none is named. From the seed S (1
+where it isn't given), N (400) random plain programs are run, and each fourth that ends is compiled with `cc -fsanitize=undefined`; N
+random files are run, most of them plain files with a few changes; N random command lines are called; streams and files of the system
+fail in every way that is listed; and each allocation of some calls is refused in turn. Each call must give the status, the standard
+output and the standard error that are expected, and nothing may end by a signal. The last line is the count of calls and how many
+differed; the exit status is 1 where one did. It isn't part of the gate.
 """
 import argparse
 import random

@@ -42,7 +42,7 @@ class NotPlain(Exception):
     """The bytes are no plain file."""
 
 
-def demand(holds):
+def expect(holds):
     if not holds:
         raise NotPlain()
 
@@ -57,7 +57,7 @@ class Body:
 
     def form(self):
         """The form of the next line, its parts, and its number in the file."""
-        demand(self.at < len(self.lines))
+        expect(self.at < len(self.lines))
         text = self.lines[self.at].lstrip(" ")
         self.at += 1
         for form, pattern in FORMS.items():
@@ -71,25 +71,25 @@ class Body:
         if text in ("T", "F"):
             return "B"
         if text[0] in "-0123456789":
-            demand(len(text) <= 20 and str(int(text)) == text and LEAST <= int(text) <= GREATEST)
+            expect(len(text) <= 20 and str(int(text)) == text and LEAST <= int(text) <= GREATEST)
             return "Z"
-        demand(text in scope)
+        expect(text in scope)
         return scope[text][0]
 
     def right(self, scope, kind, text):
         """The parts of a right side of this type."""
         parts = text.split(" ")
         if parts == ["Port.get()"]:
-            demand(kind == "Z")
+            expect(kind == "Z")
         elif len(parts) == 1:
-            demand(self.atom(scope, text) == kind)
+            expect(self.atom(scope, text) == kind)
         else:
-            demand(parts[1] in COMPARISONS if kind == "B" else parts[1] in set("+-*/%"))
-            demand(self.atom(scope, parts[0]) == "Z" and self.atom(scope, parts[2]) == "Z")
+            expect(parts[1] in COMPARISONS if kind == "B" else parts[1] in set("+-*/%"))
+            expect(self.atom(scope, parts[0]) == "Z" and self.atom(scope, parts[2]) == "Z")
         return parts
 
     def declare(self, scope, name, kind, is_var):
-        demand(name not in RESERVED and name not in self.declared)
+        expect(name not in RESERVED and name not in self.declared)
         self.declared.add(name)
         scope[name] = (kind, is_var)
 
@@ -101,12 +101,12 @@ class Body:
             form, parts, line = self.form()
             if form in ("end", "else", "return"):
                 if form == "return":
-                    demand(depth == 0 and self.at == len(self.lines) and self.atom(scope, parts[0]) == "Z")
+                    expect(depth == 0 and self.at == len(self.lines) and self.atom(scope, parts[0]) == "Z")
                 return made, form, parts
             made.append([line, form, *self.statement(form, parts, scope, depth)])
 
     def inner(self, scope, depth):
-        demand(depth < DEEPEST)
+        expect(depth < DEEPEST)
         return self.block(scope, depth + 1)
 
     def statement(self, form, parts, scope, depth):
@@ -115,7 +115,7 @@ class Body:
             self.declare(scope, parts[1], parts[2], parts[0] == "var")
             return [parts[0] == "var", parts[1], parts[2], right]
         if form == "assign":
-            demand(scope.get(parts[0], ("", False))[1])
+            expect(scope.get(parts[0], ("", False))[1])
             return [parts[0], self.right(scope, scope[parts[0]][0], parts[1])]
         if form == "print":
             self.atom(scope, parts[0])
@@ -123,24 +123,24 @@ class Body:
         if form in ("text", "halt"):
             return [parts[0]] if form == "text" else []
         if form == "for":
-            demand(self.atom(scope, parts[1]) == "Z" and self.atom(scope, parts[2]) == "Z")
+            expect(self.atom(scope, parts[1]) == "Z" and self.atom(scope, parts[2]) == "Z")
             inside = dict(scope)
             self.declare(inside, parts[0], "Z", False)
             made, ended, _ = self.inner(inside, depth)
-            demand(ended == "end")
+            expect(ended == "end")
             return [*parts, made]
         condition = self.right(scope, "B", parts[0])
         if form in ("assert", "spin"):
             return [condition]
         made, ended, _ = self.inner(scope, depth)
         if form == "while":
-            demand(ended == "end")
+            expect(ended == "end")
             return [condition, made]
         if ended == "end":
             return [condition, made, None]
-        demand(ended == "else")
+        expect(ended == "else")
         other, ended, _ = self.inner(scope, depth)
-        demand(ended == "end")
+        expect(ended == "end")
         return [condition, made, other]
 
 
@@ -150,11 +150,11 @@ def read(data):
         lines = data.decode("ascii").split("\n")
         if lines[-1] == "":
             lines.pop()
-        demand(len(lines) > len(HEAD) + 2 and lines[:2] == HEAD[:2] and lines[3] == HEAD[3] and lines[-2:] == ["  }", "}"])
+        expect(len(lines) > len(HEAD) + 2 and lines[:2] == HEAD[:2] and lines[3] == HEAD[3] and lines[-2:] == ["  }", "}"])
         named = OBJECT.fullmatch(lines[2])
-        demand(named and named.group(1) not in RESERVED)
+        expect(named and named.group(1) not in RESERVED)
         made, ended, parts = Body(lines[len(HEAD):-2]).block({}, 0)
-        demand(ended == "return")
+        expect(ended == "return")
         return made, parts[0]
     except (NotPlain, UnicodeDecodeError):
         return None
