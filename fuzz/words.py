@@ -127,7 +127,8 @@ def wanted_of(product, words):
     if command == "run":
         return answer(FILES[names[0]].encode(), names[0], b"", value), None
     written = value + ".c"
-    if "/" in value or len(written.encode()) > LONGEST:
+    below = value.rpartition("/")[0]
+    if (below and FILES.get(below, "") is not None) or len(written.encode()) > LONGEST:
         return (b"", 73, b"folder fault\n"), None
     return (lambda: (f"{written} {len(product.read(written) or b'')} bytes\n".encode(), 0, b"")), written
 
