@@ -48,6 +48,8 @@ def refuse_each(product, words, wanted, shim, later):
         if product.read("q.c") is not None:
             os.remove(os.path.join(product.folder, "q.c"))
         if made < number:
+            # a shim that isn't loaded counts nothing, and would refuse nothing
+            product.compare(f"{words}: allocations are counted and refused", (b"", int(made > 0 and spent > 0), b""), (b"", 1, b""))
             return made, spent
 
 
@@ -61,6 +63,7 @@ def address_spaces(product):
         if loaded:
             product.calls += 1
             product.compare(f"{pages} pages", found, found if is_named(found, CALLS[0][3]) else CALLS[0][3])
+    product.compare("the program is loaded in some address space", (b"", int(loaded), b""), (b"", 1, b""))
 
 
 def check(product, source, count):
