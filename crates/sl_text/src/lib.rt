@@ -1,5 +1,5 @@
-//! The base of every crate: the lists and texts that trees are made of, places in files, the broken rules, and want of
-//! memory.
+//! The base of every crate: the lists and texts that trees are made of, places in files, tokens, the broken rules,
+//! and want of memory.
 #![tactic(auto)]
 
 mod fault;
@@ -7,6 +7,7 @@ mod place;
 mod rule;
 mod shared;
 mod text;
+mod token;
 
 pub use fault::{Broken, Fault, Mem};
 pub use place::Span;
@@ -14,6 +15,7 @@ pub use rule::{Phase, Rule};
 pub use shared::Shared;
 pub use sqlite_items::{Boxed, Items as Row};
 pub use text::Text;
+pub use token::{Kind, Token};
 
 #[cfg(test)]
 mod tests;
