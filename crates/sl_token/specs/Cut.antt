@@ -1,0 +1,82 @@
+-- The cut of a file into blanks and tokens, and the rules L that a file breaks. Places are counted in bytes, from 0.
+use Rattle.std.specs.Prelude.{◌≡◌, ◌⊎◌, ℕ, ◌+◌, ◌<◌, ◌≤◌, List, [], ◌∷◌, length, take, drop, codes}
+use Rattle.std.specs.Str.{IsValidUpTo}
+use Rattle.sl_text.specs.declared.fault.Broken.{Broken}
+use Rattle.sl_text.specs.declared.fault.Fault.{Fault}
+use Rattle.sl_text.specs.declared.fault.Fault.TheVariants as fault
+use Rattle.sl_text.specs.declared.rule.Phase.TheVariants.{L}
+use Rattle.sl_text.specs.declared.token.Token.{Token}
+use Rattle.sl_token.specs.declared.piece.Piece.{Piece}
+use Rattle.sl_token.specs.declared.piece.Piece.TheVariants as piece
+use Rattle.sl_token.specs.Spellings.{piece_of}
+use Rattle.sl_token.specs.Layout.{laid}
+
+-- at this place of a text stands this piece
+abbrev pub Stands : List ℕ → ℕ → Piece → Type 0
+Stands text place stands = (place < length text) × (piece_of (drop place text) ≡ stands)
+
+-- from one place to another a text is cut into these blanks and tokens
+abbrev pub IsCut : List ℕ → ℕ → List Piece → ℕ → Type 0
+IsCut text from [] to = from ≡ to
+IsCut text from (piece.Blank len ∷ pieces) to = Stands text from (piece.Blank len) × IsCut text (from + len) pieces to
+IsCut text from (piece.Token kind len ∷ pieces) to = Stands text from (piece.Token kind len) × IsCut text (from + len) pieces to
+IsCut text from (piece.Fault number at ∷ pieces) to = ⊥
+
+-- the tokens of these pieces, which stand from a place on in a file
+abbrev pub tokens_of : ℕ → ℕ → List Piece → List Token
+tokens_of file from [] = []
+tokens_of file from (piece.Blank len ∷ pieces) = tokens_of file (from + len) pieces
+tokens_of file from (piece.Token of len ∷ pieces) =
+    record { kind = of; span = record { file = file; from = from; to = from + len } } ∷ tokens_of file (from + len) pieces
+tokens_of file from (piece.Fault number at ∷ pieces) = []
+
+-- the bytes that each file begins with
+abbrev pub header : List ℕ
+header = codes "// #Sireum"
+
+-- how many bytes a file may have
+abbrev pub most_bytes : ℕ
+most_bytes = 4194304
+
+-- a text breaks the rule L1 at its start: it doesn't begin with the header
+abbrev pub BreaksHeader : List ℕ → ℕ → ℕ → Type 0
+BreaksHeader text number place = (number ≡ 1) × (place ≡ 0) × ¬ (take (length header) text ≡ header)
+
+-- a text breaks the rule L2 at a place: it is UTF-8 up to there, and no longer front of it is
+abbrev pub BreaksUtf8 : List ℕ → ℕ → ℕ → Type 0
+BreaksUtf8 text number place = (number ≡ 2) × IsValidUpTo text place
+
+-- a text breaks the rule L7 at its start: it has too many bytes
+abbrev pub BreaksLength : List ℕ → ℕ → ℕ → Type 0
+BreaksLength text number place = (number ≡ 7) × (place ≡ 0) × (most_bytes < length text)
+
+-- a text breaks a rule L at a place: a fault stands where the cut of the text comes to
+abbrev pub BreaksPiece : List ℕ → ℕ → ℕ → Type 0
+BreaksPiece text number place =
+    (pieces : List Piece) × (from : ℕ) × (at : ℕ) × IsCut text 0 pieces from × Stands text from (piece.Fault number at) × (place ≡ from + at)
+
+-- a text breaks the rule L of this number at this place
+abbrev pub Breaks : List ℕ → ℕ → ℕ → Type 0
+Breaks text number place =
+    BreaksHeader text number place ⊎ BreaksUtf8 text number place ⊎ BreaksLength text number place ⊎ BreaksPiece text number place
+
+-- a text breaks this rule L at this place, and none before it: none at a lesser place, and none of a lesser number at this place
+pub record IsFirstBroken (text : List ℕ) (number place : ℕ) : Type 0 where
+  pub broken : Breaks text number place
+  pub first : (other at : ℕ) → Breaks text other at → (place < at) ⊎ ((place ≡ at) × (number ≤ other))
+
+-- a text breaks no rule L, and these are the tokens of its cut with the Separators between them
+pub record AreTokens (file : ℕ) (text : List ℕ) (tokens : List Token) : Type 0 where
+  pub keeps : (number place : ℕ) → ¬ Breaks text number place
+  pub cut : (pieces : List Piece) × IsCut text 0 pieces (length text) × (tokens ≡ laid text [] (tokens_of file 0 pieces))
+
+-- a broken rule is the first rule L that a text breaks, at an empty span of its file
+pub record IsFirstFault (file : ℕ) (text : List ℕ) (broken : Broken) : Type 0 where
+  pub phase : broken.rule.phase ≡ L
+  pub first : IsFirstBroken text broken.rule.number broken.span.from
+  pub span : broken.span ≡ record { file = file; from = broken.span.from; to = broken.span.from }
+
+-- a fault is the first broken rule L, or want of memory
+abbrev pub TellsFirst : ℕ → List ℕ → Fault → Type 0
+TellsFirst file text (fault.Broken broken) = IsFirstFault file text broken
+TellsFirst file text fault.Mem = Unit {0}
