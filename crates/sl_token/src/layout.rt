@@ -127,7 +127,7 @@ impl<'a> Layout<'a> {
 
     /// The tokens with their Separators.
     pub fn into_tokens(self) -> Row<Token>
-        ensures { result ≡ self.laid }
+        ensures { result ≡ self.entry.laid }
     {
         self.laid
     }
