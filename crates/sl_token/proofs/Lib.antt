@@ -1,1 +1,1 @@
--- no lemmas yet
+pub mod Going

@@ -75,11 +75,14 @@ line_len bytes = prefix_len (λ byte. not (byte == 10)) bytes
 unfoldable pub raw_len : List ℕ → ℕ
 raw_len bytes = prefix_len (λ byte. not (byte == 34) && not (byte == 10)) bytes
 
+-- a run of operator characters goes on with these bytes: they begin with one, and with no comment
+unfoldable pub goes_on : List ℕ → Bool
+goes_on bytes = is_operator (slice_index bytes 0) && not (begins_comment bytes)
+
 -- the operator characters before any other byte and before a comment
 unfoldable pub operator_len : List ℕ → ℕ
 operator_len [] = 0
-operator_len (byte ∷ bytes) =
-    if is_operator byte && not (begins_comment (byte ∷ bytes)) then 1 + operator_len bytes else 0
+operator_len (byte ∷ bytes) = if goes_on (byte ∷ bytes) then 1 + operator_len bytes else 0
 
 -- the bytes of the characters before the first that continues no identifier; so many bytes of the first character lie before these
 unfoldable pub name_len : ℕ → List ℕ → ℕ
@@ -89,29 +92,47 @@ name_len zero (byte ∷ bytes) =
     let len = continue_len (byte ∷ bytes) in
     if len == 0 then 0 else 1 + name_len (len - 1) bytes
 
--- the bytes of a text's content before the mark that ends it or before the end of the line; whether a backslash before them
--- escapes the first of them
+-- a byte is a backslash that escapes the next one, where a backslash before it escapes it or not
+unfoldable pub escapes : ℕ → Bool → Bool
+escapes byte escaped = byte == 92 && not escaped
+
+-- a text's content ends before the byte: it ends the line, or is a quotation mark that isn't escaped
+unfoldable pub ends_text : ℕ → Bool → Bool
+ends_text byte escaped = byte == 10 || (byte == 34 && not escaped)
+
+-- the bytes of a text's content before its end, or before the end of the file; whether the first of them is escaped
 unfoldable pub text_len : Bool → List ℕ → ℕ
 text_len escaped [] = 0
-text_len escaped (byte ∷ bytes) =
-    if byte == 10 || (byte == 34 && not escaped) then 0 else 1 + text_len (byte == 92 && not escaped) bytes
+text_len escaped (byte ∷ bytes) = if ends_text byte escaped then 0 else 1 + text_len (escapes byte escaped) bytes
 
--- the bytes up to and with the first three quotation marks; so many of these lie directly before the bytes
+-- how many quotation marks stand directly before the end of a byte, where so many stand before it
+unfoldable pub marks_behind : ℕ → ℕ → ℕ
+marks_behind marks byte = if byte == 34 then marks + 1 else 0
+
+-- the bytes up to and with the first three quotation marks; so many of these stand directly before the bytes
 unfoldable pub triple_len : ℕ → List ℕ → Option ℕ
 triple_len marks [] = None
 triple_len marks (byte ∷ bytes) =
-    if not (byte == 34) then more 1 (triple_len 0 bytes)
-    else if marks == 2 then Some 1
-    else more 1 (triple_len (marks + 1) bytes)
+    if marks_behind marks byte == 3 then Some 1 else more 1 (triple_len (marks_behind marks byte) bytes)
 
--- the bytes up to and with the `*/` that closes the last of so many open comments; `before` is the byte before these bytes, and 0
--- where there is none or it belongs to a `/*` or `*/`
+-- how many comments are open behind a byte, where so many are before it; `before` is the byte before it, and 0 where there is none or
+-- it is a part of a mark that opens or closes a comment
+unfoldable pub depth_behind : ℕ → ℕ → ℕ → ℕ
+depth_behind depth before byte =
+    if before == 47 && byte == 42 then depth + 1
+    else if before == 42 && byte == 47 then depth - 1
+    else depth
+
+-- that byte for the next one
+unfoldable pub before_behind : ℕ → ℕ → ℕ
+before_behind before byte = if (before == 47 && byte == 42) || (before == 42 && byte == 47) then 0 else byte
+
+-- the bytes up to the place where no comment is open
 unfoldable pub comment_len : ℕ → ℕ → List ℕ → Option ℕ
 comment_len depth before [] = None
 comment_len depth before (byte ∷ bytes) =
-    if before == 47 && byte == 42 then more 1 (comment_len (depth + 1) 0 bytes)
-    else if before == 42 && byte == 47 then (if depth == 1 then Some 1 else more 1 (comment_len (depth - 1) 0 bytes))
-    else more 1 (comment_len depth byte bytes)
+    if depth_behind depth before byte == 0 then Some 1
+    else more 1 (comment_len (depth_behind depth before byte) (before_behind before byte) bytes)
 
 -- escapes
 
@@ -141,12 +162,15 @@ escape_len bytes =
     else if is_unit bytes then 6
     else 0
 
--- where the first backslash stands that isn't escaped and begins no escape; whether a backslash before the bytes escapes the first
+-- these bytes begin with a backslash that isn't escaped and begins no escape
+unfoldable pub is_bad : List ℕ → Bool → Bool
+is_bad bytes escaped = escapes (slice_index bytes 0) escaped && escape_len bytes == 0
+
+-- where the first such backslash stands; whether the first byte is escaped
 unfoldable pub bad_escape : Bool → List ℕ → Option ℕ
 bad_escape escaped [] = None
 bad_escape escaped (byte ∷ bytes) =
-    let begins = byte == 92 && not escaped in
-    if begins && escape_len (byte ∷ bytes) == 0 then Some 0 else more 1 (bad_escape begins bytes)
+    if is_bad (byte ∷ bytes) escaped then Some 0 else more 1 (bad_escape (escapes byte escaped) bytes)
 
 -- words and signs
 

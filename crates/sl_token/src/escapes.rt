@@ -1,13 +1,14 @@
 // Escapes in texts and letters.
-ghost use Rattle.std.specs.Prelude.{◌≡◌, false};
-ghost use Rattle.sl_token.specs.Spellings.{escape_len, is_escaped, is_unit, is_surrogate, bad_escape};
+ghost use Rattle.std.specs.Prelude.{◌≡◌, ◌<◌, ◌≤◌, false, length, IfSome};
+ghost use Rattle.sl_token.specs.Spellings.{escape_len, is_escaped, is_unit, is_surrogate, escapes, bad_escape, is_bad};
 
 use crate::opening::byte_at;
 
 /// How many bytes the escape has that begins these bytes: 0 where none does.
 #[tactic(auto, unfolding(crate::specs::Spellings::escape_len))]
 pub fn escape_len(bytes: &[u8]) -> usize
-    ensures { result ≡ escape_len bytes.now }
+    ensures most { result ≤ 6 }
+    ensures len { result ≡ escape_len bytes.now }
 {
     if byte_at(bytes, 0) != b'\\' {
         0
@@ -52,17 +53,33 @@ fn is_surrogate(first: u8, second: u8) -> bool
     (first == b'd' || first == b'D') && !matches!(second, b'0'..=b'7')
 }
 
+/// Whether the byte is a backslash that escapes the next byte, where one before it escapes it or not.
+#[tactic(auto, unfolding(crate::specs::Spellings::escapes))]
+pub fn escapes(byte: u8, escaped: bool) -> bool
+    ensures { result ≡ escapes byte escaped }
+{
+    byte == b'\\' && !escaped
+}
+
 /// Where in the content of a text the first backslash stands that begins no escape.
 pub fn bad_escape(content: &[u8]) -> Option<usize>
-    ensures { result ≡ bad_escape false content.now }
+    ensures within { IfSome result (λ at. at < length content.now) }
+    ensures at { result ≡ bad_escape false content.now }
 {
     let mut escaped = false;
     for at in 0..content.len() {
-        let begins = content[at] == b'\\' && !escaped;
-        if begins && escape_len(&content[at..]) == 0 {
+        if is_bad(&content[at..], escaped) {
             return Some(at);
         }
-        escaped = begins;
+        escaped = escapes(content[at], escaped);
     }
     None
+}
+
+/// Whether these bytes begin with a backslash that begins no escape, though nothing escapes it.
+#[tactic(auto, unfolding(crate::specs::Spellings::is_bad))]
+fn is_bad(bytes: &[u8], escaped: bool) -> bool
+    ensures { result ≡ is_bad bytes.now escaped }
+{
+    escapes(byte_at(bytes, 0), escaped) && escape_len(bytes) == 0
 }
