@@ -1,0 +1,2 @@
+-- the places of line feeds
+pub mod Places

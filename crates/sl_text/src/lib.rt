@@ -3,6 +3,7 @@
 #![tactic(auto)]
 
 mod fault;
+mod lines;
 mod place;
 mod rule;
 mod shared;
@@ -10,6 +11,7 @@ mod text;
 mod token;
 
 pub use fault::{Broken, Fault, Mem};
+pub use lines::Lines;
 pub use place::Span;
 pub use rule::{Phase, Rule};
 pub use shared::Shared;

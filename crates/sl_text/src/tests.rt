@@ -31,3 +31,31 @@ fn faults_print_their_cause(rt: HostRuntime) -> Result<(), Fail> {
     );
     Ok(())
 }
+
+#[test]
+fn places_have_lines_and_columns(rt: HostRuntime) -> Result<(), Fail> {
+    let table: [(&[u8], u32, u32, u32); 15] = [
+        (b"", 0, 1, 1),
+        (b"ab\ncd\n", 0, 1, 1),
+        (b"ab\ncd\n", 2, 1, 3),
+        (b"ab\ncd\n", 3, 2, 1),
+        (b"ab\ncd\n", 5, 2, 3),
+        (b"ab\ncd\n", 6, 3, 1),
+        (b"a\r\nb", 1, 1, 2),
+        (b"a\r\nb", 2, 1, 3),
+        (b"a\r\nb", 3, 2, 1),
+        ("éx".as_bytes(), 2, 1, 3),
+        ("éx".as_bytes(), 3, 1, 4),
+        (b"\n\n\n", 0, 1, 1),
+        (b"\n\n\n", 1, 2, 1),
+        (b"\n\n\n", 2, 3, 1),
+        (b"\n\n\n", 3, 4, 1),
+    ];
+    for (bytes, place, line, column) in table {
+        assert!(rt; bytes.len() < 100);
+        assert!(rt; place as usize <= bytes.len());
+        let lines = Lines::new(rt.alloc(), bytes)?;
+        assert_eq!(rt; lines.at(place), (line, column), "at {place}");
+    }
+    Ok(())
+}
