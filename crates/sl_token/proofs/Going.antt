@@ -1,5 +1,5 @@
 -- How a run goes on at a place.
-use Rattle.std.proofs.Common.{◌≡◌, ◌≢◌, ◌==◌, ℕ, zero, suc, ◌+◌, ◌-◌, ◌<◌, ◌≤◌, List, [], ◌∷◌, length, drop, slice_index, Bool, true, false, Option, Some, None, refl, sym, ap, ◌∙◌, arith}
+use Rattle.std.proofs.Common.{◌≡◌, ◌≢◌, ◌==◌, ℕ, zero, suc, ◌+◌, ◌-◌, ◌<◌, ◌≤◌, List, [], ◌∷◌, length, drop, slice_index, Bool, true, false, Option, Some, None, refl, sym, ap, subst, ◌∙◌, arith}
 use Rattle.std.proofs.lemmas.Bool.{cond-true, cond-false}
 use Rattle.std.proofs.lemmas.Bool.Decides.{nat_tests}
 use Rattle.std.proofs.lemmas.List.{drop_more, at_drop_more, at_drop_all}
@@ -137,3 +137,13 @@ name_goes_on (byte ∷ bytes) isnt within =
     let rest = name_inside (len - 1) bytes (omega arith) in
     let behind = ap (λ n. name_len 0 (drop n (byte ∷ bytes))) same in
     goes ∙ omega arith
+
+-- the same, with the character's length by another name
+pub rest_of_name : (bytes : List ℕ) (more : ℕ) → more ≡ continue_len bytes → more ≢ 0 → more ≤ length bytes
+    → name_len 0 bytes ≡ more + name_len 0 (drop more bytes)
+rest_of_name bytes more is isnt within =
+    name_goes_on bytes (λ none. isnt (is ∙ none)) (subst (λ n. n ≤ length bytes) is within) ∙ ap (λ n. n + name_len 0 (drop n bytes)) (sym is)
+
+pub name_ends : (bytes : List ℕ) (at : ℕ) → length bytes ≤ at → name_len 0 (drop at bytes) ≡ 0
+unfolding name_len
+name_ends bytes at past = at_drop_all (name_len 0) bytes at past

@@ -1,1 +1,4 @@
 pub mod Going
+pub mod Sizes
+pub mod Within
+pub mod Cuts

@@ -1,5 +1,5 @@
 -- The cut of a file into blanks and tokens, and the rules L that a file breaks. Places are counted in bytes, from 0.
-use Rattle.std.specs.Prelude.{◌≡◌, ◌⊎◌, ℕ, ◌+◌, ◌<◌, ◌≤◌, List, [], ◌∷◌, length, take, drop, codes}
+use Rattle.std.specs.Prelude.{◌≡◌, ◌⊎◌, ℕ, ◌+◌, ◌<◌, ◌≤◌, List, [], ◌∷◌, ◌++◌, length, take, drop, codes}
 use Rattle.std.specs.Str.{IsValidUpTo}
 use Rattle.sl_text.specs.declared.fault.Broken.{Broken}
 use Rattle.sl_text.specs.declared.fault.Fault.{Fault}
@@ -15,20 +15,34 @@ use Rattle.sl_token.specs.Layout.{laid}
 abbrev pub Stands : List ℕ → ℕ → Piece → Type 0
 Stands text place stands = (place < length text) × (piece_of (drop place text) ≡ stands)
 
+-- how many bytes a piece has, if it is a blank or a token
+abbrev pub len_of : Piece → ℕ
+len_of (piece.Blank len) = len
+len_of (piece.Token kind len) = len
+len_of (piece.Fault number at) = 0
+
+-- a piece is a blank or a token
+abbrev pub IsSpelled : Piece → Type 0
+IsSpelled (piece.Blank len) = Unit {0}
+IsSpelled (piece.Token kind len) = Unit {0}
+IsSpelled (piece.Fault number at) = ⊥
+
 -- from one place to another a text is cut into these blanks and tokens
 abbrev pub IsCut : List ℕ → ℕ → List Piece → ℕ → Type 0
 IsCut text from [] to = from ≡ to
-IsCut text from (piece.Blank len ∷ pieces) to = Stands text from (piece.Blank len) × IsCut text (from + len) pieces to
-IsCut text from (piece.Token kind len ∷ pieces) to = Stands text from (piece.Token kind len) × IsCut text (from + len) pieces to
-IsCut text from (piece.Fault number at ∷ pieces) to = ⊥
+IsCut text from (first ∷ pieces) to = Stands text from first × IsSpelled first × IsCut text (from + len_of first) pieces to
 
--- the tokens of these pieces, which stand from a place on in a file
+-- the token, if any, that a piece is at a place of a file
+abbrev pub token_of : ℕ → ℕ → Piece → List Token
+token_of file from (piece.Blank len) = []
+token_of file from (piece.Token of len) =
+    record { kind = of; span = record { file = file; from = from; to = from + len } } ∷ []
+token_of file from (piece.Fault number at) = []
+
+-- the tokens of these pieces, which stand from a place of a file on
 abbrev pub tokens_of : ℕ → ℕ → List Piece → List Token
 tokens_of file from [] = []
-tokens_of file from (piece.Blank len ∷ pieces) = tokens_of file (from + len) pieces
-tokens_of file from (piece.Token of len ∷ pieces) =
-    record { kind = of; span = record { file = file; from = from; to = from + len } } ∷ tokens_of file (from + len) pieces
-tokens_of file from (piece.Fault number at ∷ pieces) = []
+tokens_of file from (first ∷ pieces) = token_of file from first ++ tokens_of file (from + len_of first) pieces
 
 -- the bytes that each file begins with
 abbrev pub header : List ℕ
@@ -75,6 +89,14 @@ pub record IsFirstFault (file : ℕ) (text : List ℕ) (broken : Broken) : Type 
   pub phase : broken.rule.phase ≡ L
   pub first : IsFirstBroken text broken.rule.number broken.span.from
   pub span : broken.span ≡ record { file = file; from = broken.span.from; to = broken.span.from }
+
+-- the rule L of this number, broken at a place of a file
+abbrev pub broken_at : ℕ → ℕ → ℕ → Fault
+broken_at file number place =
+    fault.Broken (record {
+      rule = record { phase = L; number = number };
+      span = record { file = file; from = place; to = place };
+    })
 
 -- a fault is the first broken rule L, or want of memory
 abbrev pub TellsFirst : ℕ → List ℕ → Fault → Type 0

@@ -10,9 +10,9 @@ abbrev pub first_of_list : List Token → Option Token
 first_of_list [] = None
 first_of_list (token ∷ tokens) = Some token
 
--- the state behind these tokens of a text, the last of them first
-pub record IsLayoutOf (text : List ℕ) (before : List Token) (layout : Layout) : Type 0 where
+-- the state behind these tokens of a text
+pub record IsLayoutOf (text : List ℕ) (tokens : List Token) (layout : Layout) : Type 0 where
   pub bytes : layout.bytes.now ≡ text
-  pub laid : layout.laid ≡ laid text [] (reverse before)
-  pub last : layout.last ≡ first_of_list before
-  pub levels : layout.inner ∷ reverse layout.outer.items ≡ levels text before
+  pub laid : layout.laid ≡ laid text [] tokens
+  pub last : layout.last ≡ first_of_list (reverse tokens)
+  pub levels : layout.inner ∷ reverse layout.outer.items ≡ levels text (reverse tokens)

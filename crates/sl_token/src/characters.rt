@@ -8,7 +8,8 @@ use unicode_ident::{is_xid_continue, is_xid_start};
 /// How many bytes the character has that begins these bytes: 0 where none does.
 #[tactic(auto, unfolding(crate::specs::Characters::char_len))]
 pub fn char_len(bytes: &[u8]) -> usize
-    ensures { result ≡ char_len bytes.now }
+    ensures most { result ≤ 4 }
+    ensures len { result ≡ char_len bytes.now }
 {
     match decode_utf8(bytes) {
         (Some(_), size) => size,
@@ -30,7 +31,8 @@ pub fn start_len(bytes: &[u8]) -> usize
 /// How many bytes the character has that begins these bytes and may continue an identifier: 0 where none does.
 #[tactic(auto, unfolding(crate::specs::Characters::continue_len))]
 pub fn continue_len(bytes: &[u8]) -> usize
-    ensures { result ≡ continue_len bytes.now }
+    ensures within { result ≤ length bytes.now }
+    ensures len { result ≡ continue_len bytes.now }
 {
     match decode_utf8(bytes) {
         (Some(character), size) if is_xid_continue(character) => size,

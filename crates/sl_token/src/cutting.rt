@@ -1,8 +1,10 @@
 // The tokens of a file.
-ghost use Rattle.std.specs.Prelude.{◌≡◌, ◌↔◌, ◌<◌, ◌≤◌, ℕ, take, length, IfOk, IfErr, IsTrue};
-ghost use Rattle.sl_token.specs.Cut.{AreTokens, TellsFirst, header, most_bytes};
+ghost use Rattle.std.specs.Prelude.{◌≡◌, ◌<◌, ◌≤◌, length, IfOk, IfErr};
+ghost use Rattle.std.specs.Str.{IsUtf8, IsValidUpTo};
+ghost use Rattle.sl_token.specs.Cut.{AreTokens, TellsFirst, broken_at};
 
 use crate::layout::Layout;
+use crate::opening::behind;
 use crate::piece::{Piece, piece_of};
 use sl_text::{Broken, Fault, Phase, Row, Rule, Span, Token};
 use std::alloc::Global;
@@ -29,7 +31,7 @@ pub fn tokens(alloc: Global, file: u32, bytes: &[u8]) -> Result<Row<Token>, Faul
     let mut layout = Layout::new(alloc, bytes);
     let mut at = 0;
     while at < bytes.len() {
-        match piece_of(&bytes[at..]) {
+        match piece_of(behind(bytes, at)) {
             Piece::Blank(len) => at += len,
             Piece::Token(kind, len) => {
                 let span = Span {
@@ -42,11 +44,10 @@ pub fn tokens(alloc: Global, file: u32, bytes: &[u8]) -> Result<Row<Token>, Faul
             }
             Piece::Fault(number, further) => {
                 let place = at + further;
-                return Err(if valid < bytes.len() && valid <= place {
-                    broken(file, 2, valid)
-                } else {
-                    broken(file, number, place)
-                });
+                if valid < bytes.len() && valid <= place {
+                    return Err(broken(file, 2, valid));
+                }
+                return Err(broken(file, number, place));
             }
         }
     }
@@ -57,7 +58,10 @@ pub fn tokens(alloc: Global, file: u32, bytes: &[u8]) -> Result<Row<Token>, Faul
 }
 
 /// The rule L of this number, broken at a place.
-fn broken(file: u32, number: u8, place: usize) -> Fault {
+fn broken(file: u32, number: u8, place: usize) -> Fault
+    requires { place < 4294967296 }
+    ensures { result ≡ broken_at file number place }
+{
     let rule = Rule {
         phase: Phase::L,
         number,
@@ -72,7 +76,10 @@ fn broken(file: u32, number: u8, place: usize) -> Fault {
 }
 
 /// How many bytes the longest front has that is UTF-8.
-fn valid_len(bytes: &[u8]) -> usize {
+fn valid_len(bytes: &[u8]) -> usize
+    ensures whole { length bytes.now ≤ result → IsUtf8 bytes.now }
+    ensures front { result < length bytes.now → IsValidUpTo bytes.now result }
+{
     match std::str::from_utf8(bytes) {
         Ok(_) => bytes.len(),
         Err(error) => error.valid_up_to(),

@@ -2,7 +2,7 @@
 ghost use Rattle.std.specs.Prelude.{◌≡◌, ◌<◌, ◌≤◌, false, length, IfSome};
 ghost use Rattle.sl_token.specs.Spellings.{escape_len, is_escaped, is_unit, is_surrogate, escapes, bad_escape, is_bad};
 
-use crate::opening::byte_at;
+use crate::opening::{behind, byte_at};
 
 /// How many bytes the escape has that begins these bytes: 0 where none does.
 #[tactic(auto, unfolding(crate::specs::Spellings::escape_len))]
@@ -68,7 +68,7 @@ pub fn bad_escape(content: &[u8]) -> Option<usize>
 {
     let mut escaped = false;
     for at in 0..content.len() {
-        if is_bad(&content[at..], escaped) {
+        if is_bad(behind(content, at), escaped) {
             return Some(at);
         }
         escaped = escapes(content[at], escaped);

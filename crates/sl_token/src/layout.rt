@@ -1,6 +1,6 @@
 // Layout: Separators where a line's end ends a statement.
-ghost use Rattle.std.specs.Prelude.{◌≡◌, ◌++◌, [], ◌∷◌, IfOk, OnOk, List};
-ghost use Rattle.sl_token.specs.Layout.{between, spelling, ends_statement, begins_statement, has_newline};
+ghost use Rattle.std.specs.Prelude.{◌≡◌, ◌++◌, [], ◌∷◌, IfOk, OnOk, ℕ, List};
+ghost use Rattle.sl_token.specs.Layout.{laid, between, spelling, ends_statement, begins_statement, has_newline};
 ghost use Rattle.sl_token.specs.Layouts.{IsLayoutOf};
 ghost use Rattle.sl_text.specs.declared.token.Token.{Token};
 
@@ -60,7 +60,7 @@ impl<'a> Layout<'a> {
 
     /// Adds the next token, and the Separator before it where one stands there.
     pub fn push(&mut self, token: Token) -> Result<(), Mem>
-        ensures { OnOk result ((before : List Token) → IsLayoutOf self.old.bytes.now before self.old → IsLayoutOf self.old.bytes.now (token ∷ before) self.new) }
+        ensures { OnOk result ((text : List ℕ) (tokens : List Token) → IsLayoutOf text tokens self.old → IsLayoutOf text (tokens ++ token ∷ []) self.new) }
     {
         if let Some(last) = self.last {
             if self.separates(last, token) {
@@ -127,7 +127,7 @@ impl<'a> Layout<'a> {
 
     /// The tokens with their Separators.
     pub fn into_tokens(self) -> Row<Token>
-        ensures { result ≡ self.entry.laid }
+        ensures { (text : List ℕ) (tokens : List Token) → IsLayoutOf text tokens self.entry → result ≡ laid text [] tokens }
     {
         self.laid
     }

@@ -73,7 +73,7 @@ fn number_piece(bytes: &[u8]) -> Piece
     ensures { result ≡ number_piece bytes.now }
 {
     let len = digits_len(bytes);
-    if (byte_at(bytes, 0) == b'0' && len > 1) || len > 38 || continue_len(&bytes[len..]) != 0 {
+    if (byte_at(bytes, 0) == b'0' && len > 1) || len > 38 || continue_len(behind(bytes, len)) != 0 {
         Piece::Fault(8, 0)
     } else {
         Piece::Token(Kind::Number, len)
@@ -160,7 +160,7 @@ fn name_piece(bytes: &[u8]) -> Piece
     ensures { result ≡ name_piece bytes.now }
 {
     let len = name_len(bytes);
-    let rest = &bytes[len..];
+    let rest = behind(bytes, len);
     if len == 1 && byte_at(bytes, 0) == b'_' {
         Piece::Token(Kind::Mark, 1)
     } else if begins_triple(rest) {

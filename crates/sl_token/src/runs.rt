@@ -1,12 +1,12 @@
 // How far the runs of bytes go that pieces are made of.
-ghost use Rattle.std.specs.Prelude.{◌≡◌, ◌+◌, ◌<◌, ◌≤◌, length, true, false};
+ghost use Rattle.std.specs.Prelude.{◌≡◌, ◌+◌, ◌<◌, ◌≤◌, length, true, false, IfSome};
 ghost use Rattle.std.specs.List.{prefix_len};
 ghost use Rattle.sl_token.specs.Spellings.{is_space, is_digit, line_len, raw_len, operator_len, goes_on, name_len, text_len, ends_text, triple_len, marks_behind, comment_len, depth_behind, before_behind};
 
 use crate::characters::continue_len;
 use crate::escapes::escapes;
 use crate::opening::{
-    begins_block_comment, begins_line_comment, byte_at, is_digit, is_operator, is_space,
+    begins_block_comment, begins_line_comment, behind, byte_at, is_digit, is_operator, is_space,
 };
 
 /// How many blanks stand at the front.
@@ -52,7 +52,7 @@ pub fn operator_len(bytes: &[u8]) -> usize
     ensures run { result ≡ operator_len bytes.now }
 {
     for at in 0..bytes.len() {
-        if !goes_on(&bytes[at..]) {
+        if !goes_on(behind(bytes, at)) {
             return at;
         }
     }
@@ -74,7 +74,7 @@ pub fn name_len(bytes: &[u8]) -> usize
 {
     let mut len = 0;
     while len < bytes.len() {
-        let more = continue_len(&bytes[len..]);
+        let more = continue_len(behind(bytes, len));
         if more == 0 {
             return len;
         }
@@ -108,7 +108,8 @@ fn ends_text(byte: u8, escaped: bool) -> bool
 
 /// How many bytes end with the first three quotation marks.
 pub fn triple_len(bytes: &[u8]) -> Option<usize>
-    ensures { result ≡ triple_len 0 bytes.now }
+    ensures within { IfSome result (λ len. len ≤ length bytes.now) }
+    ensures len { result ≡ triple_len 0 bytes.now }
 {
     let mut marks = 0;
     for at in 0..bytes.len() {
@@ -132,7 +133,8 @@ fn marks_behind(marks: u8, byte: u8) -> u8
 
 /// How many bytes end one open comment.
 pub fn comment_len(bytes: &[u8]) -> Option<usize>
-    ensures { result ≡ comment_len 1 0 bytes.now }
+    ensures within { IfSome result (λ len. len ≤ length bytes.now) }
+    ensures len { result ≡ comment_len 1 0 bytes.now }
 {
     let mut depth = 1;
     let mut before = 0;
