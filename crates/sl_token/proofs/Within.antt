@@ -14,7 +14,7 @@ use Rattle.sl_token.specs.declared.opening.Opening.TheVariants as opens
 use Rattle.sl_token.specs.declared.piece.Piece.{Piece}
 use Rattle.sl_token.specs.declared.piece.Piece.TheVariants.{Blank, Token, Fault}
 use Rattle.sl_token.specs.Characters.{len_if, begins_identifier, char_len, start_len, continue_len}
-use Rattle.sl_token.specs.Spellings.{is_space, is_digit, is_operator, is_mark, begins_line_comment, begins_block_comment, begins_comment, begins_triple, opening_of, more, line_len, raw_len, operator_len, name_len, text_len, triple_len, comment_len, escape_len, bad_escape, is_sign, is_word, comment_by, comment_piece, operator_piece, number_piece, triple_by, triple_piece, quoted_by, quoted_piece, identifier_len, symbol_piece, letter_piece, raw_piece, name_piece, piece_by, piece_of}
+use Rattle.sl_token.specs.Spellings.{is_space, is_digit, is_operator, is_mark, begins_line_comment, begins_block_comment, begins_comment, begins_triple, opening_of, more, line_len, raw_len, goes_on, operator_len, escapes, ends_text, marks_behind, depth_behind, before_behind, is_bad, name_len, text_len, triple_len, comment_len, escape_len, bad_escape, is_sign, is_word, comment_by, comment_piece, operator_piece, number_piece, triple_by, triple_piece, quoted_by, quoted_piece, identifier_len, symbol_piece, letter_piece, raw_piece, name_piece, piece_by, piece_of}
 
 -- What an opening says of the bytes ------------------------------------------------------------------------------------
 
@@ -80,14 +80,14 @@ unfolding operator_len
 operator_len_within [] = omega arith
 operator_len_within (byte ∷ bytes) =
     let k = operator_len_within bytes in
-    cond_both (is_operator byte && not (begins_comment (byte ∷ bytes))) (1 + operator_len bytes) 0 (λ n. n ≤ suc (length bytes)) (λ e. omega arith) (λ e. omega arith)
+    cond_both (goes_on (byte ∷ bytes)) (1 + operator_len bytes) 0 (λ n. n ≤ suc (length bytes)) (λ e. omega arith) (λ e. omega arith)
 
 pub text_len_within : (escaped : Bool) (bytes : List ℕ) → text_len escaped bytes ≤ length bytes
 unfolding text_len
 text_len_within escaped [] = omega arith
 text_len_within escaped (byte ∷ bytes) =
-    let k = text_len_within (byte == 92 && not escaped) bytes in
-    cond_both (byte == 10 || (byte == 34 && not escaped)) 0 (1 + text_len (byte == 92 && not escaped) bytes) (λ n. n ≤ suc (length bytes)) (λ e. omega arith) (λ e. omega arith)
+    let k = text_len_within (escapes byte escaped) bytes in
+    cond_both (ends_text byte escaped) 0 (1 + text_len (escapes byte escaped) bytes) (λ n. n ≤ suc (length bytes)) (λ e. omega arith) (λ e. omega arith)
 
 -- a length, if there is one, is at most so many
 abbrev pub AtMost : ℕ → Option ℕ → Type 0
@@ -102,35 +102,29 @@ pub triple_len_within : (marks : ℕ) (bytes : List ℕ) → AtMost (length byte
 unfolding triple_len
 triple_len_within marks [] = tt
 triple_len_within marks (byte ∷ bytes) =
-    let P = AtMost (suc (length bytes)) in
-    cond_both (not (byte == 34)) _ _ P
-    (λ e. more_at_most (length bytes) (triple_len 0 bytes) (triple_len_within 0 bytes))
-    (λ e.
-    cond_both (marks == 2) (Some 1) (more 1 (triple_len (marks + 1) bytes)) P
+    let now = marks_behind marks byte in
+    cond_both (now == 3) (Some 1) (more 1 (triple_len now bytes)) (AtMost (suc (length bytes)))
     (λ e. omega arith)
-    (λ e. more_at_most (length bytes) (triple_len (marks + 1) bytes) (triple_len_within (marks + 1) bytes)))
+    (λ e. more_at_most (length bytes) (triple_len now bytes) (triple_len_within now bytes))
 
 pub comment_len_within : (depth before : ℕ) (bytes : List ℕ) → AtMost (length bytes) (comment_len depth before bytes)
 unfolding comment_len
 comment_len_within depth before [] = tt
 comment_len_within depth before (byte ∷ bytes) =
-    let P = AtMost (suc (length bytes)) in
-    let next = λ (depth before : ℕ). more_at_most (length bytes) (comment_len depth before bytes) (comment_len_within depth before bytes) in
-    cond_both (before == 47 && byte == 42) _ _ P
-    (λ e. next (depth + 1) 0)
-    (λ e.
-    cond_both (before == 42 && byte == 47) _ _ P
-    (λ e. cond_both (depth == 1) (Some 1) _ P (λ e. omega arith) (λ e. next (depth - 1) 0))
-    (λ e. next depth byte))
+    let now = depth_behind depth before byte in
+    let next = before_behind before byte in
+    cond_both (now == 0) (Some 1) (more 1 (comment_len now next bytes)) (AtMost (suc (length bytes)))
+    (λ e. omega arith)
+    (λ e. more_at_most (length bytes) (comment_len now next bytes) (comment_len_within now next bytes))
 
 pub bad_escape_within : (escaped : Bool) (bytes : List ℕ) → AtMost (length bytes) (bad_escape escaped bytes)
 unfolding bad_escape
 bad_escape_within escaped [] = tt
 bad_escape_within escaped (byte ∷ bytes) =
-    let begins = byte == 92 && not escaped in
-    cond_both (begins && escape_len (byte ∷ bytes) == 0) (Some 0) (more 1 (bad_escape begins bytes)) (AtMost (suc (length bytes)))
+    let next = escapes byte escaped in
+    cond_both (is_bad (byte ∷ bytes) escaped) (Some 0) (more 1 (bad_escape next bytes)) (AtMost (suc (length bytes)))
     (λ e. omega arith)
-    (λ e. more_at_most (length bytes) (bad_escape begins bytes) (bad_escape_within begins bytes))
+    (λ e. more_at_most (length bytes) (bad_escape next bytes) (bad_escape_within next bytes))
 
 -- Pieces ---------------------------------------------------------------------------------------------------------------
 
@@ -199,7 +193,7 @@ block_within bytes h = by (comment_len 1 0 (drop 2 bytes)) (comment_len_within 1
         (omega arith, omega arith)
 
 operator_some : (bytes : List ℕ) → begins_comment bytes ≡ false → is_operator (slice_index bytes 0) ≡ true → 0 < operator_len bytes
-unfolding is_operator operator_len
+unfolding is_operator goes_on operator_len
 operator_some [] a b = absurd (both_ways false refl b)
 operator_some (byte ∷ bytes) a b = rw (b, a) (omega arith)
 
