@@ -1,1 +1,2 @@
--- no lemmas yet
+-- what one token more does to the layout
+pub mod Layouts

@@ -1,18 +1,12 @@
 -- What the state of the layout holds.
-use Rattle.std.specs.Prelude.{◌≡◌, ℕ, ◌≤◌, List, [], ◌∷◌, length, All, reverse, Option, Some, None}
+use Rattle.std.specs.Prelude.{◌≡◌, ℕ, List, [], reverse}
 use Rattle.sl_text.specs.declared.token.Token.{Token}
-use Rattle.sl_token.specs.declared.layout.Level.{Level}
 use Rattle.sl_token.specs.declared.layout.Layout.{Layout}
-use Rattle.sl_token.specs.Layout.{levels, laid}
+use Rattle.sl_token.specs.Layout.{levels, last_of, laid}
 
--- the first of a list
-abbrev pub first_of_list : List Token → Option Token
-first_of_list [] = None
-first_of_list (token ∷ tokens) = Some token
-
--- the state behind these tokens of a text, the last of them first
-pub record IsLayoutOf (text : List ℕ) (before : List Token) (layout : Layout) : Type 0 where
+-- the state behind these tokens of a text
+pub record IsLayoutOf (text : List ℕ) (tokens : List Token) (layout : Layout) : Type 0 where
   pub bytes : layout.bytes.now ≡ text
-  pub laid : layout.laid ≡ laid text [] (reverse before)
-  pub last : layout.last ≡ first_of_list before
-  pub levels : layout.inner ∷ reverse layout.outer.items ≡ levels text before
+  pub laid : layout.laid.items ≡ laid text [] tokens
+  pub last : layout.last ≡ last_of (reverse tokens)
+  pub levels : layout.levels ≡ levels text (reverse tokens)
