@@ -164,6 +164,7 @@ impl<'a> Layout<'a> {
     ghost use Rattle.sl_token.specs.Layout.{laid, separator};
     ghost use Rattle.sl_token.specs.Layouts.{IsLayoutOf};
 
+    #[tactic(auto, unfolding(crate::specs::Layout::levels, crate::specs::Layout::laid))]
     pub fn new(alloc: Global, bytes: &'a [u8]) -> Layout<'a>
         ensures { IsLayoutOf bytes.now [] result }
     {
@@ -267,12 +268,8 @@ fn ends_statement(kind: Kind, bytes: &[u8]) -> bool
         Kind::Word => ENDING_WORDS.contains(&bytes),
         Kind::Mark => ENDING_MARKS.contains(&bytes),
         Kind::Operator | Kind::Separator => false,
-        Kind::Ident
-        | Kind::Number
-        | Kind::Quoted
-        | Kind::Letter
-        | Kind::Symbol
-        | Kind::Prefixed => true,
+        Kind::Ident | Kind::Number | Kind::Quoted | Kind::Letter | Kind::Symbol | Kind::Prefixed =>
+            true,
     }
 }
 
