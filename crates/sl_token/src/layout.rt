@@ -1,7 +1,6 @@
 // Layout: Separators where a line's end ends a statement.
 ghost use Rattle.std.specs.Prelude.{◌≡◌, ℕ, ◌+◌, ◌^◌, ◌<◌, ◌≤◌, ◌++◌, [], ◌∷◌, OnOk, OnErr, List, length};
-ghost use Rattle.std.specs.List.{sum_by};
-ghost use Rattle.sl_token.specs.Layout.{between, spelling, ends_statement, begins_statement, has_newline, open_level, closed_level, closed, with_case, without_case, levels_behind_mark, levels_behind, are_enabled, waiting, separates};
+ghost use Rattle.sl_token.specs.Layout.{between, spelling, ends_statement, begins_statement, has_newline, open_level, closed, with_case, without_case, levels_behind_mark, levels_behind, are_enabled, waiting, separates};
 
 use crate::opening::behind;
 use sl_text::{Kind, Mem, Row, Span, Token};
