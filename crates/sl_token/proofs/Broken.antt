@@ -7,23 +7,38 @@ use Rattle.sl_token.specs.declared.piece.Piece.TheVariants as piece
 use Rattle.sl_token.specs.Spellings.{piece_of}
 use Rattle.sl_token.specs.Cut.{Stands, IsCut, header, most_bytes, BreaksHeader, BreaksUtf8, BreaksLength, BreaksPiece, Breaks, IsFirstBroken}
 use Rattle.sl_token.proofs.Cuts.{IsStuck, cuts_end_alike}
-use Rattle.sl_token.proofs.Faults.{fault_number}
+use Rattle.sl_token.proofs.Faults.{fault_number, header_no_fault, header_is_valid}
 
 -- a text begins with the header
 abbrev pub HasHeader : List ℕ → Type 0
 HasHeader text = take (length header) text ≡ header
 
 -- a text has no place at which it stops being UTF-8 where it is UTF-8
-whole_is_valid : (text : List ℕ) (place : ℕ) → IsUtf8 text → IsValidUpTo text place → ⊥
+pub whole_is_valid : (text : List ℕ) (place : ℕ) → IsUtf8 text → IsValidUpTo text place → ⊥
 whole_is_valid text place whole valid =
     valid.longest (length text) valid.short (subst IsUtf8 (sym (take_all (length text) text (omega arith))) whole)
 
+-- what a fault holds
+abbrev number_in : Piece → ℕ
+number_in (piece.Blank len) = 0
+number_in (piece.Token kind len) = 0
+number_in (piece.Fault number at) = number
+
+abbrev further_in : Piece → ℕ
+further_in (piece.Blank len) = 0
+further_in (piece.Token kind len) = 0
+further_in (piece.Fault number at) = at
+
 -- there is one such place
-one_valid : (text : List ℕ) (place other : ℕ) → IsValidUpTo text place → IsValidUpTo text other → place ≡ other
+pub one_valid : (text : List ℕ) (place other : ℕ) → IsValidUpTo text place → IsValidUpTo text other → place ≡ other
 one_valid text place other valid also =
     ⊎_elim
-    (λ below. absurd (valid.longest other below also.front))
-    (λ above. ⊎_elim (λ below. absurd (also.longest place below valid.front)) (λ above. omega arith) (cases_lt other place))
+    (λ (below : place < other). absurd (valid.longest other below also.front))
+    (λ (above : other ≤ place).
+    ⊎_elim
+    (λ (less : other < place). absurd (also.longest place less valid.front))
+    (λ (within : place ≤ other). omega arith)
+    (cases_lt other place))
     (cases_lt place other)
 
 -- which rule is broken
@@ -32,24 +47,131 @@ module _ {P : Type 0} (text : List ℕ) (number place : ℕ) where
       → (BreaksPiece text number place → P) → Breaks text number place → P
   cases_of header utf8 length piece broken = ⊎_elim header (⊎_elim utf8 (⊎_elim length piece)) broken
 
--- the rules that are broken stand behind this one
-abbrev pub AllBehind : List ℕ → ℕ → ℕ → Type 0
-AllBehind text number place = (other at : ℕ) → Breaks text other at → (place < at) ⊎ ((place ≡ at) × (number ≤ other))
+by_header : (text : List ℕ) (number place : ℕ) → BreaksHeader text number place → Breaks text number place
+by_header text number place broken = inl broken
 
-at_or_behind : (place at number other : ℕ) → place ≤ at → number ≤ other → (place < at) ⊎ ((place ≡ at) × (number ≤ other))
-at_or_behind place at number other from least =
-    ⊎_elim (λ below. inl below) (λ above. inr (omega arith, least)) (cases_lt place at)
+by_utf8 : (text : List ℕ) (number place : ℕ) → BreaksUtf8 text number place → Breaks text number place
+by_utf8 text number place broken = inr (inl broken)
 
--- no header
+by_length : (text : List ℕ) (number place : ℕ) → BreaksLength text number place → Breaks text number place
+by_length text number place broken = inr (inr (inl broken))
+
+by_piece : (text : List ℕ) (number place : ℕ) → BreaksPiece text number place → Breaks text number place
+by_piece text number place broken = inr (inr (inr broken))
+
+-- a rule that stands behind another, or at its place with no lesser number
+abbrev pub IsBehind : ℕ → ℕ → ℕ → ℕ → Type 0
+IsBehind number place other at = (place < at) ⊎ ((place ≡ at) × (number ≤ other))
+
+is_behind : (number place other at : ℕ) → place ≤ at → number ≤ other → IsBehind number place other at
+is_behind number place other at from least = ⊎_elim (λ below. inl below) (λ (above : at ≤ place). inr (omega arith, least)) (cases_lt place at)
+
+-- the rule L1 is the first where there is no header
 pub no_header_first : (text : List ℕ) → ¬ HasHeader text → IsFirstBroken text 1 0
 no_header_first text none = record {
-  broken = inl (refl, refl, none);
+  broken = by_header text 1 0 (refl, refl, none);
   first = λ other at broken.
-      let behind : 1 ≤ other → (0 < at) ⊎ ((0 ≡ at) × (1 ≤ other)) = λ least. at_or_behind 0 at 1 other (omega arith) least in
+      let behind : 1 ≤ other → IsBehind 1 0 other at = λ least. is_behind 1 0 other at (omega arith) least in
       cases_of text other at
-          (λ b. behind (let is = b.0 in omega arith))
-          (λ b. behind (let is = b.0 in omega arith))
-          (λ b. behind (let is = b.0 in omega arith))
-          (λ b. behind (let least = fault_number _ other _ b.2.2.2.0.1 in omega arith))
-          broken;
+      (λ b. behind (let is = b.0 in omega arith))
+      (λ b. behind (let is = b.0 in omega arith))
+      (λ b. behind (let is = b.0 in omega arith))
+      (λ b. behind (let least = fault_number (drop b.1 text) other b.2 b.4.1 in omega arith))
+      broken;
+}
+
+-- the rule L7 is the first where there is a header, and there are too many bytes
+pub too_long_first : (text : List ℕ) → HasHeader text → most_bytes < length text → IsFirstBroken text 7 0
+too_long_first text has long = record {
+  broken = by_length text 7 0 (refl, refl, long);
+  first = λ other at broken.
+      cases_of {P = IsBehind 7 0 other at} text other at
+      (λ b. absurd (b.2 has))
+      (λ b. ⊎_elim (λ some. inl some) (λ none. absurd (header_is_valid text at has b.1 (omega arith))) (cases_lt 0 at))
+      (λ b. inr (let is = b.1 in omega arith, let is = b.0 in omega arith))
+      (λ b. ⊎_elim
+      (λ some. inl (let is = b.5 in omega arith))
+      (λ (none : b.1 ≤ 0).
+      let start : b.1 ≡ 0 = omega arith in
+      absurd (header_no_fault text other b.2 has (subst (λ place. piece_of (drop place text) ≡ piece.Fault other b.2) start b.4.1)))
+      (cases_lt 0 b.1))
+      broken;
+}
+
+-- a text that is cut to its end breaks no rule
+pub cut_keeps : (text : List ℕ) (pieces : List Piece) → HasHeader text → length text ≤ most_bytes → IsUtf8 text
+    → IsCut text 0 pieces (length text) → (number place : ℕ) → ¬ Breaks text number place
+cut_keeps text pieces has short utf8 cut number place broken =
+    cases_of text number place
+    (λ b. b.2 has)
+    (λ b. whole_is_valid text place utf8 b.1)
+    (λ b. let long = b.2 in absurd (omega arith))
+    (λ b.
+    let same = cuts_end_alike text 0 pieces b.0 (length text) b.1 cut (inl (omega arith)) b.3 (inr (number, b.2, b.4)) in
+    let within = b.4.0 in
+    absurd (omega arith))
+    broken
+
+-- the rule L2 is the first where the text stops being UTF-8 at its end or before it, and is cut up to there without a fault
+pub utf8_first_of_cut : (text : List ℕ) (pieces : List Piece) (place : ℕ) → HasHeader text → length text ≤ most_bytes
+    → IsCut text 0 pieces (length text) → IsValidUpTo text place → IsFirstBroken text 2 place
+utf8_first_of_cut text pieces place has short cut valid = record {
+  broken = by_utf8 text 2 place (refl, valid);
+  first = λ other at broken.
+      cases_of {P = IsBehind 2 place other at} text other at
+      (λ b. absurd (b.2 has))
+      (λ b. let same = one_valid text place at valid b.1 in inr (same, let is = b.0 in omega arith))
+      (λ b. let long = b.2 in absurd (omega arith))
+      (λ b.
+      let same = cuts_end_alike text 0 pieces b.0 (length text) b.1 cut (inl (omega arith)) b.3 (inr (other, b.2, b.4)) in
+      let within = b.4.0 in
+      absurd (omega arith))
+      broken;
+}
+
+-- where a fault stands, every fault that is reached is this one
+one_fault : (text : List ℕ) (pieces : List Piece) (from number further other at : ℕ) → IsCut text 0 pieces from
+    → Stands text from (piece.Fault number further) → BreaksPiece text other at → (at ≡ from + further) × (other ≡ number)
+one_fault text pieces from number further other at cut stands b =
+    let same = cuts_end_alike text 0 pieces b.0 from b.1 cut (inr (number, further, stands)) b.3 (inr (other, b.2, b.4)) in
+    let fault : piece.Fault number further ≡ piece.Fault other b.2 =
+    sym stands.1 ∙ subst (λ place. piece_of (drop place text) ≡ piece.Fault other b.2) (sym same) b.4.1 in
+    let numbers : number ≡ other = ap number_in fault in
+    let places : further ≡ b.2 = ap further_in fault in
+    let place = b.5 in
+    (omega arith, sym numbers)
+
+-- the rule L2 is the first where the text stops being UTF-8 before the place of a fault or at it
+pub utf8_first_of_fault : (text : List ℕ) (pieces : List Piece) (from number further place : ℕ) → HasHeader text
+    → length text ≤ most_bytes → IsCut text 0 pieces from → Stands text from (piece.Fault number further) → IsValidUpTo text place
+    → place ≤ from + further → IsFirstBroken text 2 place
+utf8_first_of_fault text pieces from number further place has short cut stands valid before = record {
+  broken = by_utf8 text 2 place (refl, valid);
+  first = λ other at broken.
+      cases_of {P = IsBehind 2 place other at} text other at
+      (λ b. absurd (b.2 has))
+      (λ b. let same = one_valid text place at valid b.1 in inr (same, let is = b.0 in omega arith))
+      (λ b. let long = b.2 in absurd (omega arith))
+      (λ b.
+      let same = one_fault text pieces from number further other at cut stands b in
+      let least = fault_number (drop from text) number further stands.1 in
+      is_behind 2 place other at (let is = same.0 in omega arith) (let is = same.1 in omega arith))
+      broken;
+}
+
+-- the fault is the first where the text doesn't stop being UTF-8 before its place or at it
+pub fault_first : (text : List ℕ) (pieces : List Piece) (from number further : ℕ) → HasHeader text → length text ≤ most_bytes
+    → IsCut text 0 pieces from → Stands text from (piece.Fault number further)
+    → ((place : ℕ) → IsValidUpTo text place → from + further < place) → IsFirstBroken text number (from + further)
+fault_first text pieces from number further has short cut stands valid = record {
+  broken = by_piece text number (from + further) (pieces, from, further, cut, stands, refl);
+  first = λ other at broken.
+      cases_of {P = IsBehind number (from + further) other at} text other at
+      (λ b. absurd (b.2 has))
+      (λ b. inl (valid at b.1))
+      (λ b. let long = b.2 in absurd (omega arith))
+      (λ b.
+      let same = one_fault text pieces from number further other at cut stands b in
+      inr (sym same.0, let is = same.1 in omega arith))
+      broken;
 }

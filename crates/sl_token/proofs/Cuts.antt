@@ -47,5 +47,5 @@ cuts_end_alike text from (first ∷ pieces) [] to end cut stuck other ended =
 cuts_end_alike text from (first ∷ pieces) (next ∷ others) to end cut stuck other ended =
     let same : next ≡ first = sym other.0.1 ∙ cut.0.1 in
     cuts_end_alike text (from + len_of first) pieces others to end cut.2 stuck
-        (subst (λ piece. IsCut text (from + len_of piece) others end) same other.2)
-        ended
+    (subst (λ piece. IsCut text (from + len_of piece) others end) same other.2)
+    ended

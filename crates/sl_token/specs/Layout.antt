@@ -1,7 +1,7 @@
 -- Layout: where a line's end ends a statement.
-use Rattle.std.specs.Prelude.{ℕ, ◌+◌, ◌-◌, List, [], ◌∷◌, ◌++◌, take, drop, Bool, true, false, not, ◌&&◌, ◌||◌, ◌==◌, if◌then◌else◌, codes, bytes_eq}
-use Rattle.std.specs.List.{list_any}
-use Rattle.sl_text.specs.declared.place.Span.{Span}
+use Rattle.std.specs.Prelude.{ℕ, ◌+◌, ◌-◌, List, [], ◌∷◌, ◌++◌, take, drop, Bool, true, false, not, ◌&&◌, ◌==◌, if◌then◌else◌, codes, bytes_eq, Option, Some, None}
+use Rattle.std.specs.List.{list_any, sum_by}
+use Rattle.std.specs.Option.{option_to_list}
 use Rattle.sl_text.specs.declared.token.Kind.{Kind}
 use Rattle.sl_text.specs.declared.token.Kind.TheVariants.{Ident, Word, Number, Quoted, Letter, Symbol, Prefixed, Operator, Mark, Separator}
 use Rattle.sl_text.specs.declared.token.Token.{Token}
@@ -92,16 +92,24 @@ abbrev pub without_case : List Level → List Level
 without_case [] = []
 without_case (level ∷ levels) = record { newlines = level.newlines; cases = level.cases - 1 } ∷ levels
 
--- the levels behind a token of this kind and spelling
-abbrev pub levels_behind : Kind → List ℕ → List Level → List Level
-levels_behind Mark bytes levels =
+-- the levels behind a Mark of this spelling
+unfoldable pub levels_behind_mark : List ℕ → List Level → List Level
+levels_behind_mark bytes levels =
     if bytes_eq (codes "{") bytes then open_level ∷ levels
     else if is_one_of (codes "(" ∷ codes "[" ∷ []) bytes then closed_level ∷ levels
     else if is_one_of (codes ")" ∷ codes "]" ∷ codes "}" ∷ []) bytes then closed levels
     else if bytes_eq (codes "=>") bytes then without_case levels
     else levels
+
+-- the levels behind a token of this kind and spelling
+abbrev pub levels_behind : Kind → List ℕ → List Level → List Level
+levels_behind Mark bytes levels = levels_behind_mark bytes levels
 levels_behind Word bytes levels = if bytes_eq (codes "case") bytes then with_case levels else levels
 levels_behind of bytes levels = levels
+
+-- how many `case`s wait for their `=>`
+abbrev pub waiting : List Level → ℕ
+waiting levels = sum_by (λ level. level.cases) levels
 
 -- the levels behind these tokens, the last of them first
 unfoldable pub levels : List ℕ → List Token → List Level
@@ -132,12 +140,18 @@ separator_behind token = record {
   span = record { file = token.span.file; from = token.span.to; to = token.span.to };
 }
 
--- the Separator, if any, between these tokens, the last of them first, and the next one
-abbrev pub separator : List ℕ → List Token → Token → List Token
-separator text [] next = []
-separator text (token ∷ before) next = if separates text (levels text (token ∷ before)) token next then separator_behind token ∷ [] else []
+-- the Separator, if any, between the last token, if any, and the next one, where these levels are behind the last
+abbrev pub separator : List ℕ → List Level → Option Token → Token → Option Token
+separator text behind None next = None
+separator text behind (Some token) next = if separates text behind token next then Some (separator_behind token) else None
+
+-- the last token, if any, of tokens of which the last stands first
+abbrev pub last_of : List Token → Option Token
+last_of [] = None
+last_of (token ∷ before) = Some token
 
 -- tokens with the Separators between them, behind these tokens, the last of them first
 unfoldable pub laid : List ℕ → List Token → List Token → List Token
 laid text before [] = []
-laid text before (token ∷ tokens) = separator text before token ++ token ∷ laid text (token ∷ before) tokens
+laid text before (token ∷ tokens) =
+    option_to_list (separator text (levels text before) (last_of before) token) ++ token ∷ laid text (token ∷ before) tokens

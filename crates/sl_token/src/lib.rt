@@ -9,7 +9,6 @@ mod layout;
 mod opening;
 mod piece;
 mod runs;
-
 mod words;
 
 pub use cutting::tokens;

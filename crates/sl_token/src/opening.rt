@@ -89,10 +89,7 @@ pub fn is_operator(byte: u8) -> bool
 fn is_mark(byte: u8) -> bool
     ensures { result ≡ is_mark byte }
 {
-    matches!(
-        byte,
-        b'(' | b')' | b'[' | b']' | b'{' | b'}' | b',' | b'.'
-    )
+    matches!(byte, b'(' | b')' | b'[' | b']' | b'{' | b'}' | b',' | b'.')
 }
 
 #[tactic(auto, unfolding(crate::specs::Spellings::begins_line_comment))]

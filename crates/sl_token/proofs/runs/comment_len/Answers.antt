@@ -22,9 +22,9 @@ loop-at-preserved c =
     let isnt : depth_behind here.depth here.before (slice_index bytes at) ≢ 0 = λ is. c.if-depth-eq0.false (c.depth_behind-depth.ensures.depth ∙ is) in
     let goes = comment_goes_on bytes at here.depth here.before c.loop-at-test.true isnt in
     let depth = ap (λ depth. more 1 (comment_len depth (before_behind here.before (slice_index bytes at)) (drop (at + 1) bytes)))
-        (sym c.depth_behind-depth.ensures.depth) in
+    (sym c.depth_behind-depth.ensures.depth) in
     let before = ap (λ before. more 1 (comment_len c.depth_behind-depth.result before (drop (at + 1) bytes)))
-        (sym c.before_behind-before.ensures) in
+    (sym c.before_behind-before.ensures) in
     let most = c.depth_behind-depth.ensures.most in
     let some = c.if-depth-eq0.false in
     (omega arith, omega arith, so_far ∙ ap (more at) (goes ∙ depth ∙ before) ∙ more_more at _)
