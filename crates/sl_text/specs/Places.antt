@@ -20,11 +20,11 @@ feeds_from place [] = []
 feeds_from place (byte ∷ rest) =
     if is_feed byte then place ∷ feeds_from (place + 1) rest else feeds_from (place + 1) rest
 
--- how a file is cut into lines: the place of its end, and those of its line feeds, in order
-pub record Layout : Type 0 where
+-- the line ends of a file: the place of its end, and those of its line feeds, in order
+pub record LineEnds : Type 0 where
   pub end : ℕ
   pub feeds : List ℕ
 
--- the layout of a file with these bytes
-abbrev pub layout_of : List ℕ → Layout
-layout_of bytes = record { end = length bytes; feeds = feeds_from 0 bytes }
+-- the line ends of a file with these bytes
+abbrev pub line_ends_of : List ℕ → LineEnds
+line_ends_of bytes = record { end = length bytes; feeds = feeds_from 0 bytes }

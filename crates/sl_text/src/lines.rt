@@ -1,6 +1,6 @@
 ghost use Rattle.std.specs.Prelude.{◌≡◌, ◌<◌, ◌≤◌, ℕ, List, length, slice_index, IfOk};
 ghost use Rattle.std.specs.List.Sorted.{IsNonDecreasing};
-ghost use Rattle.sl_text.specs.Places.{line_of, column_of, layout_of};
+ghost use Rattle.sl_text.specs.Places.{line_of, column_of, line_ends_of};
 
 use crate::{Mem, Row};
 use std::alloc::Global;
@@ -21,9 +21,9 @@ pub struct Lines {
 impl Model for Lines {
     ghost use Rattle.std.specs.Prelude.{◌<◌, ◌≤◌, length};
     ghost use Rattle.std.specs.List.Sorted.{IsNonDecreasing};
-    ghost use Rattle.sl_text.specs.Places.{Layout};
+    ghost use Rattle.sl_text.specs.Places.{LineEnds};
 
-    ghost Value = { Layout };
+    ghost Value = { LineEnds };
 
     ghost view = { λ lines. record { end = lines.end; feeds = lines.feeds } };
 
@@ -34,7 +34,7 @@ impl Lines {
     /// Finds the line feeds of a file of fewer than 2^32 - 1 bytes, in one pass over its bytes.
     pub fn new(alloc: Global, bytes: &[u8]) -> Result<Lines, Mem>
         requires { length bytes.now < 4294967295 }
-        ensures { IfOk result (λ lines. lines ≡ layout_of bytes.now) }
+        ensures { IfOk result (λ lines. lines ≡ line_ends_of bytes.now) }
     {
         let mut feeds = Row::new(alloc);
         for (place, byte) in bytes.iter().enumerate() {
@@ -53,8 +53,8 @@ impl Lines {
     /// allocates nothing, and its time grows with the logarithm of the number of lines.
     pub fn at(&self, place: u32) -> (u32, u32)
         requires { place ≤ self.now.end }
-        ensures line { (bytes : List ℕ) → self.now ≡ layout_of bytes → result.0 ≡ line_of bytes place }
-        ensures column { (bytes : List ℕ) → self.now ≡ layout_of bytes → result.1 ≡ column_of bytes place }
+        ensures line { (bytes : List ℕ) → self.now ≡ line_ends_of bytes → result.0 ≡ line_of bytes place }
+        ensures column { (bytes : List ℕ) → self.now ≡ line_ends_of bytes → result.1 ≡ column_of bytes place }
     {
         let feeds = self.feeds.as_slice();
         let before = count_below(feeds, place);

@@ -9,7 +9,7 @@ use Rattle.std.proofs.lemmas.Fmt.{decimal_digit}
 use Rattle.sl_text.specs.declared.rule.Rule.{Rule}
 use Rattle.sl_text.specs.Rules.{rule_text}
 use Rattle.sl_tool.specs.Texts.{broken_line}
-use Rattle.sl_tool.specs.Accepting.{mark, greatest_length, lexical, Breaks, IsAccepted, IsFirstBroken, line_at, column_at, first_broken}
+use Rattle.sl_tool.specs.Accepting.{mark, greatest_length, lexical, Breaks, IsAccepted, IsFirstBroken, first_broken}
 
 -- whether bytes begin with the mark, and whether they are too long
 abbrev marked : List ℕ → Bool
@@ -113,10 +113,3 @@ first_found bytes rule place first = at (first_broken bytes) refl
 -- the line of a rule that is broken at the first byte
 pub at_first_byte : (file : List ℕ) (rule : Rule) → (file ++ (codes ":1:1: " ++ (rule_text rule ++ codes "\n"))) ≡ broken_line file 1 1 rule
 at_first_byte file rule = ap (λ one. file ++ (codes ":" ++ (one ++ (codes ":" ++ (one ++ (codes ": " ++ (rule_text rule ++ codes "\n"))))))) (sym (decimal_digit 1 (omega arith)))
-
--- the fourth byte of two lines is the second one of the second line, and a line feed still stands on the line that it ends
-fourth_byte : (line_at (codes "a\nbc") 3 ≡ 2) × (column_at (codes "a\nbc") 3 ≡ 2)
-fourth_byte = (refl, refl)
-
-a_line_feed : (line_at (codes "ab\ncd\n") 5 ≡ 2) × (column_at (codes "ab\ncd\n") 5 ≡ 3)
-a_line_feed = (refl, refl)

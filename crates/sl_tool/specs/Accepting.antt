@@ -1,6 +1,6 @@
 -- Which sources are accepted: the rules that a source can break so far, and the place of a broken rule.
-use Rattle.std.specs.Prelude.{◌≡◌, ◌⊎◌, ℕ, ◌+◌, ◌<◌, ◌≤◌, List, [], ◌∷◌, ◌++◌, length, take, not, Option, Some, None, ◌==◌, nat_lt, if◌then◌else◌, codes}
-use Rattle.std.specs.List.{count_by, starts_with}
+use Rattle.std.specs.Prelude.{◌≡◌, ◌⊎◌, ℕ, ◌<◌, ◌≤◌, List, ◌++◌, length, not, Option, Some, None, ◌==◌, nat_lt, if◌then◌else◌, codes}
+use Rattle.std.specs.List.{starts_with}
 use Rattle.sl_text.specs.declared.rule.Phase.TheVariants.{L}
 use Rattle.sl_text.specs.declared.rule.Rule.{Rule}
 
@@ -30,19 +30,6 @@ IsAccepted bytes = (rule : Rule) (place : ℕ) → ¬ Breaks bytes rule place
 pub record IsFirstBroken (bytes : List ℕ) (rule : Rule) (place : ℕ) : Type 0 where
   pub broken : Breaks bytes rule place
   pub first : (other : Rule) (elsewhere : ℕ) → Breaks bytes other elsewhere → (place < elsewhere) ⊎ ((place ≡ elsewhere) × (rule.number ≤ other.number))
-
--- the line of a place: 1 and the line feeds before it
-abbrev pub line_at : List ℕ → ℕ → ℕ
-line_at bytes place = 1 + count_by (λ byte. byte == 10) (take place bytes)
-
--- the bytes behind the last line feed
-abbrev pub last_line : List ℕ → List ℕ
-last_line [] = []
-last_line (byte ∷ bytes) = if nat_lt 0 (count_by (λ other. other == 10) (byte ∷ bytes)) then last_line bytes else byte ∷ bytes
-
--- the column of a place: 1 and the bytes between it and the last line feed before it
-abbrev pub column_at : List ℕ → ℕ → ℕ
-column_at bytes place = 1 + length (last_line (take place bytes))
 
 -- the first broken rule, if there is one. So far each stands at the first byte
 abbrev pub first_broken : List ℕ → Option Rule

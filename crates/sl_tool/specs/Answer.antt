@@ -8,7 +8,7 @@ use Rattle.sl_tool.specs.declared.status.Status.{Status}
 use Rattle.sl_tool.specs.declared.status.Status.TheVariants as status
 use Rattle.sl_plain.specs.declared.tree.Plain.{Plain}
 use Rattle.sl_text.specs.declared.rule.Rule.{Rule}
-use Rattle.sl_tool.specs.Accepting.{line_at, column_at}
+use Rattle.sl_text.specs.Places.{line_of, column_of}
 use Rattle.sl_tool.specs.SourceFiles.{SourceFile, sources_of, first_broken_of, program_of}
 use Rattle.sl_plain.specs.Means.{plain_run}
 use Rattle.sl_tool.specs.Written.{written}
@@ -126,7 +126,7 @@ answer_to_program command (Some program) files input = answer_to_plain command p
 -- a command's answer to sources of which this one is the first that breaks a rule, and that rule, or none
 abbrev pub answer_to_sources : Command → List SourceFile → Option (SourceFile × Rule) → Contents → List ℕ → Answer
 answer_to_sources command sources (Some broken) files input =
-    rejected status.Broken (broken_line broken.0.name (line_at broken.0.bytes 0) (column_at broken.0.bytes 0) broken.1) files input
+    rejected status.Broken (broken_line broken.0.name (line_of broken.0.bytes 0) (column_of broken.0.bytes 0) broken.1) files input
 answer_to_sources command sources None files input = answer_to_program command (program_of sources) files input
 
 -- a command's answer to the sources that it names, or to the first name that isn't there

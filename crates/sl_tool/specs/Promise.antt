@@ -20,7 +20,7 @@ use Rattle.sl_tool.specs.declared.status.Status.{Status}
 use Rattle.sl_tool.specs.declared.status.Status.TheVariants.{Exit, Usage, Broken, Halted, TurnsSpent, StackSpent, ExitValue, NotC, Stuck, NoFile, FolderFault, InputFault, SinkFault, Memory, NotBuilt}
 use Rattle.sl_plain.specs.declared.tree.Plain.{Plain}
 use Rattle.sl_text.specs.declared.rule.Rule.{Rule}
-use Rattle.sl_tool.specs.Accepting.{line_at, column_at}
+use Rattle.sl_text.specs.Places.{line_of, column_of}
 use Rattle.sl_tool.specs.SourceFiles.{SourceFile, names_of, AreSources, IsFirstMissing, AreAccepted, IsFirstBrokenOf, ArePlain}
 use Rattle.sl_plain.specs.Means.{plain_run}
 use Rattle.sl_tool.specs.Written.{written}
@@ -361,7 +361,7 @@ abbrev pub IsLineOf : List (List ℕ) → Contents → List ℕ → Status → L
 IsLineOf words files input Usage line = HasNoReading words × (line ≡ usage_line)
 IsLineOf words files input Broken line =
     (source : SourceFile) × (rule : Rule) × (place : ℕ) × AsksForBroken words files source rule place
-    × (line ≡ broken_line source.name (line_at source.bytes place) (column_at source.bytes place) rule)
+    × (line ≡ broken_line source.name (line_of source.bytes place) (column_of source.bytes place) rule)
 IsLineOf words files input NoFile line = (name : List ℕ) × AsksForNoFile words files name × (line ≡ no_file_line name)
 IsLineOf words files input Halted line = IsRunLine words files input Halted line
 IsLineOf words files input TurnsSpent line = IsRunLine words files input TurnsSpent line
