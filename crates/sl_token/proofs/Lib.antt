@@ -1,1 +1,2 @@
--- no lemmas yet
+-- what stands at a place lies within the bytes
+pub mod Within
