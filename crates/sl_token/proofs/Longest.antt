@@ -1,0 +1,2 @@
+-- What stands at a place is the longest that is spelled there.
+pub mod Runs
