@@ -284,7 +284,7 @@ module _ (bytes : List ℕ) (begun : start_len bytes ≢ 0) where
       )
 
   -- an identifier
-  is_name : (len == 1 && slice_index bytes 0 == 95) ≡ false → IsName bytes len
+  pub is_name : (len == 1 && slice_index bytes 0 == 95) ≡ false → IsName bytes len
   is_name e = (
       name_spells bytes begun,
       λ is.
