@@ -1,12 +1,12 @@
 -- What spells a blank or a token, with no word on how it is found. What stands at a place is the longest that is spelled there.
 use Rattle.std.specs.Prelude.{◌≡◌, ◌≢◌, ◌⊎◌, ℕ, zero, suc, ◌+◌, ◌<◌, ◌≤◌, List, [], ◌∷◌, length, take, drop, slice_index, Bool, true, false, not, ◌&&◌, ◌==◌, Some}
 use Rattle.std.specs.List.{All}
-use Rattle.std.specs.Char.{IsScalar}
+use Rattle.std.specs.Char.{IsScalar, encode_utf8}
 use Rattle.std.specs.Str.{encode_utf8_all}
 use Rattle.unicode_ident.specs.Ident.{is_xid_continue}
 use Rattle.sl_token.specs.declared.opening.Opening.{Opening}
 use Rattle.sl_token.specs.declared.opening.Opening.TheVariants as opens
-use Rattle.sl_token.specs.Characters.{char_len, begins_identifier, continue_len}
+use Rattle.sl_token.specs.Characters.{begins_identifier, continue_len}
 use Rattle.sl_token.specs.Spellings.{is_space, is_digit, is_operator, is_mark, begins_line_comment, begins_block_comment, begins_comment, begins_triple, comment_len, escape_len, opening_of}
 
 -- runs
@@ -111,12 +111,19 @@ pub record IsPrefixed (bytes : List ℕ) (n : ℕ) : Type 0 where
   pub whole : continue_len (drop at bytes) ≡ 0
   pub text : IsTriple bytes at n ⊎ IsRaw bytes at n
 
+-- the UTF-8 of a character
+pub record IsCharacter (bytes : List ℕ) (n : ℕ) : Type 0 where
+  pub character : ℕ
+  pub scalar : IsScalar character
+  pub fits : n ≤ length bytes
+  pub spelled : take n bytes ≡ encode_utf8 character
+
 -- between apostrophes an escape or a character
 pub record IsLetter (bytes : List ℕ) (n : ℕ) : Type 0 where
   pub len : ℕ
   pub is : n ≡ len + 2
   pub some : 0 < len
-  pub one : (len ≡ escape_len (drop 1 bytes)) ⊎ (len ≡ char_len (drop 1 bytes))
+  pub one : (len ≡ escape_len (drop 1 bytes)) ⊎ IsCharacter (drop 1 bytes) len
   pub closed : slice_index (drop 1 bytes) len ≡ 39
 
 -- an apostrophe and an identifier, where no Letter stands

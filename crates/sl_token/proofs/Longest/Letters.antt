@@ -1,18 +1,20 @@
 -- Letters and Symbols.
-use Rattle.std.proofs.Common.{◌≡◌, ◌≢◌, ◌⊎◌, ℕ, ◌+◌, ◌<◌, ◌≤◌, List, [], ◌∷◌, length, take, drop, slice_index, Bool, true, false, not, ◌&&◌, ◌||◌, ◌==◌, refl, sym, ap, subst, ◌∙◌, arith, ⊎_elim, inl, inr}
+use Rattle.std.proofs.Common.{◌≡◌, ◌≢◌, ◌⊎◌, ℕ, ◌+◌, ◌<◌, ◌≤◌, List, [], ◌∷◌, ◌++◌, length, take, drop, slice_index, Bool, true, false, not, ◌&&◌, ◌||◌, ◌==◌, refl, sym, ap, subst, ◌∙◌, arith, ⊎_elim, inl, inr, take-append-drop, length-take-le}
 use Rattle.std.proofs.lemmas.Bool.{cond_both, both_ways, and_parts, and_from, or_parts, eq-eqb, ne_eqb, eqb-true, eqb-false, not-true, not-false, not_from_false, cases_eq}
 use Rattle.bstr.specs.Utf8.{Decoded, good, decoded}
 use Rattle.bstr.proofs.lemmas.PieceLemmas.{value-1}
+use Rattle.bstr.proofs.lemmas.EncodeLemmas.{decoded-encode}
+use Rattle.std.specs.Char.{encode_utf8}
 use Rattle.sl_text.specs.declared.token.Kind.TheVariants as kind
 use Rattle.sl_token.specs.declared.opening.Opening.TheVariants as opens
 use Rattle.sl_token.specs.declared.piece.Piece.{Piece}
 use Rattle.sl_token.specs.declared.piece.Piece.TheVariants.{Blank, Token, Fault}
 use Rattle.sl_token.specs.Characters.{len_if, char_len, start_len}
 use Rattle.sl_token.specs.Spellings.{escape_len, is_escaped, is_unit, name_len, identifier_len, symbol_piece, letter_piece}
-use Rattle.sl_token.specs.Longest.{IsName, IsLetter, IsSymbol, Spells}
+use Rattle.sl_token.specs.Longest.{IsName, IsCharacter, IsLetter, IsSymbol, Spells}
 use Rattle.sl_token.proofs.Within.{Begun, within}
 use Rattle.sl_token.proofs.Longest.Runs.{Longest}
-use Rattle.sl_token.proofs.Longest.Names.{name_spells, identifier_most, is_name}
+use Rattle.sl_token.proofs.Longest.Names.{Read, reads, name_spells, identifier_most, is_name}
 
 -- an escape begins with a backslash
 backslash : (bytes : List ℕ) → escape_len bytes ≢ 0 → slice_index bytes 0 ≡ 92
@@ -28,6 +30,22 @@ one_byte bytes is =
     let read : decoded bytes ≡ good (slice_index bytes 0) 1 =
     value-1 (length bytes) (slice_index bytes 0) (slice_index bytes 1) (slice_index bytes 2) (slice_index bytes 3) (some, omega arith) in
     ap (λ (read : Decoded). len_if (λ character. true) read.char read.size) read
+
+-- the length of the character at the front
+character_is : (bytes : List ℕ) → char_len bytes ≢ 0 → IsCharacter bytes (char_len bytes)
+unfolding char_len
+character_is bytes some =
+    let read = reads (λ character. true) bytes (char_len bytes) refl some in
+    record { character = read.character; scalar = read.scalar; fits = read.fits; spelled = read.spelled }
+
+character_len : (bytes : List ℕ) (n : ℕ) → IsCharacter bytes n → n ≡ char_len bytes
+unfolding char_len
+character_len bytes n is =
+    let front = encode_utf8 is.character in
+    let whole : bytes ≡ front ++ drop n bytes = sym (take-append-drop n bytes) ∙ ap (λ front. front ++ drop n bytes) is.spelled in
+    let read : decoded bytes ≡ good is.character (length front) = ap decoded whole ∙ decoded-encode is.character (drop n bytes) is.scalar in
+    let size : length front ≡ n = ap length (sym is.spelled) ∙ length-take-le n bytes is.fits in
+    sym size ∙ ap (λ (read : Decoded). len_if (λ character. true) read.char read.size) (sym read)
 
 -- a length that isn't 0, behind which stands an apostrophe
 closes : List ℕ → ℕ → Bool
@@ -69,7 +87,7 @@ module _ (bytes : List ℕ) (opened : slice_index bytes 0 ≡ 39) where
       (
         (opened, inl letter),
         λ m spelled. ⊎_elim
-        (λ is. let it = is.is in ⊎_elim (λ same. omega arith) (λ same. omega arith) is.one)
+        (λ is. let it = is.is in ⊎_elim (λ same. omega arith) (λ one. let same = character_len content is.len one in omega arith) is.one)
         (λ is. absurd (is.no_letter (escape + 2) letter))
         spelled.1,
       )
@@ -77,7 +95,7 @@ module _ (bytes : List ℕ) (opened : slice_index bytes 0 ≡ 39) where
   of_character : closes content escape ≡ false → closes content character ≡ true → Longest Either (Token kind.Letter (character + 2))
   of_character none e =
       let both = closes_some content character e in
-      let letter : IsLetter bytes (character + 2) = record { len = character; is = refl; some = both.0; one = inr refl; closed = both.1 } in
+      let letter : IsLetter bytes (character + 2) = record { len = character; is = refl; some = both.0; one = inr (character_is content (λ none. let some = both.0 in omega arith)); closed = both.1 } in
       (
         (opened, inl letter),
         λ m spelled. ⊎_elim
@@ -85,7 +103,7 @@ module _ (bytes : List ℕ) (opened : slice_index bytes 0 ≡ 39) where
         let it = is.is in
         ⊎_elim
         (λ same. absurd (both_ways (closes content escape) none (subst (λ len. closes content len ≡ true) same (closes_by content is.len is.some is.closed))))
-        (λ same. omega arith)
+        (λ one. let same = character_len content is.len one in omega arith)
         is.one)
         (λ is. absurd (is.no_letter (character + 2) letter))
         spelled.1,
@@ -97,7 +115,7 @@ module _ (bytes : List ℕ) (opened : slice_index bytes 0 ≡ 39) where
       let found = closes_by content is.len is.some is.closed in
       ⊎_elim
       (λ same. both_ways (closes content escape) none (subst (λ len. closes content len ≡ true) same found))
-      (λ same. both_ways (closes content character) neither (subst (λ len. closes content len ≡ true) same found))
+      (λ one. both_ways (closes content character) neither (subst (λ len. closes content len ≡ true) (character_len content is.len one) found))
       is.one
 
   of_symbol : ((m : ℕ) → IsLetter bytes m → ⊥) → Longest Either (symbol_piece content)

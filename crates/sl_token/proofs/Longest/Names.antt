@@ -26,7 +26,7 @@ use Rattle.sl_token.proofs.Longest.Texts.{triple_longest, raw_longest}
 -- Characters -----------------------------------------------------------------------------------------------------------
 
 -- the character of some bytes, which passes a test
-record Read (passes : ℕ → Bool) (bytes : List ℕ) (len : ℕ) : Type 0 where
+pub record Read (passes : ℕ → Bool) (bytes : List ℕ) (len : ℕ) : Type 0 where
   pub character : ℕ
   pub scalar : IsScalar character
   pub spelled : take len bytes ≡ encode_utf8 character
@@ -42,7 +42,7 @@ reads_by passes (Some character) size h =
     (λ e. absurd (h (cond-false (passes character) size 0 e)))
     (cases_Bool (passes character))
 
-reads : (passes : ℕ → Bool) (bytes : List ℕ) (len : ℕ) → len ≡ len_if passes (decoded bytes).char (decoded bytes).size → len ≢ 0 → Read passes bytes len
+pub reads : (passes : ℕ → Bool) (bytes : List ℕ) (len : ℕ) → len ≡ len_if passes (decoded bytes).char (decoded bytes).size → len ≢ 0 → Read passes bytes len
 reads passes bytes len is some =
     let found = reads_by passes (decoded bytes).char (decoded bytes).size (λ none. some (is ∙ none)) in
     let spells = SpellsChar-decoded bytes found.0 found.1 in
@@ -169,7 +169,7 @@ name_spells bytes some =
 -- What is spelled is found ---------------------------------------------------------------------------------------------
 
 -- a character takes bytes
-encode_some : (character : ℕ) → 0 < length (encode_utf8 character)
+pub encode_some : (character : ℕ) → 0 < length (encode_utf8 character)
 unfolding encode_utf8
 encode_some character = grind (arith, nat_tests)
 
