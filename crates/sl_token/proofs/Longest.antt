@@ -1,5 +1,6 @@
 -- What stands at a place is the longest that is spelled there.
 pub mod Runs
+pub mod Comments
 pub mod Texts
 pub mod Names
 pub mod Letters
@@ -13,7 +14,8 @@ use Rattle.sl_token.specs.declared.piece.Piece.TheVariants.{Blank, Token, Fault}
 use Rattle.sl_token.specs.Spellings.{opening_of, piece_by, piece_of}
 use Rattle.sl_token.specs.Longest.{Spells, IsLongest}
 use Rattle.sl_token.proofs.Within.{Begun, begun}
-use Rattle.sl_token.proofs.Longest.Runs.{Longest, space_longest, line_longest, block_longest, mark_longest, operator_longest, number_longest}
+use Rattle.sl_token.proofs.Longest.Runs.{Longest, space_longest, line_longest, mark_longest, operator_longest, number_longest}
+use Rattle.sl_token.proofs.Longest.Comments.{block_longest}
 use Rattle.sl_token.proofs.Longest.Texts.{triple_longest, quoted_longest}
 use Rattle.sl_token.proofs.Longest.Names.{name_longest}
 use Rattle.sl_token.proofs.Longest.Letters.{letter_longest}

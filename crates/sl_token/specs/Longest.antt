@@ -1,5 +1,5 @@
 -- What spells a blank or a token, with no word on how it is found. What stands at a place is the longest that is spelled there.
-use Rattle.std.specs.Prelude.{◌≡◌, ◌≢◌, ◌⊎◌, ℕ, zero, suc, ◌+◌, ◌<◌, ◌≤◌, List, [], ◌∷◌, length, take, drop, slice_index, Bool, true, false, not, ◌&&◌, ◌==◌, Some}
+use Rattle.std.specs.Prelude.{◌≡◌, ◌≢◌, ◌⊎◌, ℕ, zero, suc, ◌+◌, ◌<◌, ◌≤◌, List, [], ◌∷◌, length, take, drop, slice_index, Bool, true, false, not, ◌&&◌, ◌==◌}
 use Rattle.std.specs.List.{All}
 use Rattle.std.specs.Char.{IsScalar, encode_utf8}
 use Rattle.std.specs.Str.{encode_utf8_all}
@@ -7,7 +7,7 @@ use Rattle.unicode_ident.specs.Ident.{is_xid_continue}
 use Rattle.sl_token.specs.declared.opening.Opening.{Opening}
 use Rattle.sl_token.specs.declared.opening.Opening.TheVariants as opens
 use Rattle.sl_token.specs.Characters.{begins_identifier, continue_len}
-use Rattle.sl_token.specs.Spellings.{is_space, is_digit, is_operator, is_mark, begins_line_comment, begins_block_comment, begins_comment, begins_triple, comment_len, escape_len, opening_of}
+use Rattle.sl_token.specs.Spellings.{is_space, is_digit, is_operator, is_mark, begins_line_comment, begins_block_comment, begins_comment, begins_triple, escape_len, opening_of}
 
 -- runs
 
@@ -26,12 +26,44 @@ pub record IsLineComment (bytes : List ℕ) (n : ℕ) : Type 0 where
   pub marks : 2 ≤ n
   pub line : FirstBytes (λ byte. byte ≢ 10) bytes n
 
+-- what stands between `/*` and `*/`: bytes and whole comments
+pub data Body : Type 0 where
+  Empty : Body
+  -- a byte and what follows it
+  Byte : ℕ → Body → Body
+  -- what stands in a comment, and what follows that comment
+  Comment : Body → Body → Body
+
+-- its bytes, with these behind it
+abbrev pub spelled : Body → List ℕ → List ℕ
+spelled Empty behind = behind
+spelled (Byte byte rest) behind = byte ∷ spelled rest behind
+spelled (Comment inner rest) behind = 47 ∷ 42 ∷ spelled inner (42 ∷ 47 ∷ spelled rest behind)
+
+-- how many bytes it has
+abbrev pub body_len : Body → ℕ
+body_len Empty = 0
+body_len (Byte byte rest) = 1 + body_len rest
+body_len (Comment inner rest) = 4 + body_len inner + body_len rest
+
+-- bytes that end a comment
+abbrev pub ends_block_comment : List ℕ → Bool
+ends_block_comment bytes = slice_index bytes 0 == 42 && slice_index bytes 1 == 47
+
+-- with these bytes behind it, no byte of it that stands alone begins a `/*` or a `*/`
+abbrev pub IsBody : Body → List ℕ → Type 0
+IsBody Empty behind = Unit {0}
+IsBody (Byte byte rest) behind =
+    (begins_block_comment (byte ∷ spelled rest behind) ≡ false) × (ends_block_comment (byte ∷ spelled rest behind) ≡ false) × IsBody rest behind
+IsBody (Comment inner rest) behind = IsBody inner (42 ∷ 47 ∷ spelled rest behind) × IsBody rest behind
+
 -- a comment of the form `/* */`, with others inside it
 pub record IsBlockComment (bytes : List ℕ) (n : ℕ) : Type 0 where
-  pub begins : begins_block_comment bytes ≡ true
-  pub len : ℕ
-  pub is : n ≡ len + 2
-  pub closes : comment_len 1 0 (drop 2 bytes) ≡ Some len
+  pub body : Body
+  pub behind : List ℕ
+  pub is : n ≡ body_len body + 4
+  pub whole : bytes ≡ 47 ∷ 42 ∷ spelled body (42 ∷ 47 ∷ behind)
+  pub well : IsBody body (42 ∷ 47 ∷ behind)
 
 -- a run of operator characters in which no comment begins
 pub record IsOperator (bytes : List ℕ) (n : ℕ) : Type 0 where

@@ -1,4 +1,4 @@
--- Runs of bytes: blanks, comments, operators, Marks and numbers.
+-- Runs of bytes: spaces, comments on one line, operators, Marks and numbers.
 use Rattle.std.proofs.Common.{◌≡◌, ◌≢◌, ◌⊎◌, ℕ, zero, suc, ◌+◌, ◌-◌, ◌<◌, ◌≤◌, List, [], ◌∷◌, length, take, drop, slice_index, Bool, true, false, cond, not, ◌&&◌, ◌||◌, ◌==◌, nat_lt, Option, Some, None, refl, sym, ap, subst, ◌∙◌, arith, ⊎_elim, inl, inr}
 use Rattle.std.specs.List.{prefix_len}
 use Rattle.std.proofs.lemmas.Bool.{cond_both, both_ways, and_parts, or_parts, and_cases, eqb-true, eqb-false, ltb-false, not-true, cases_Bool, cases_lt, cases_eq, cond-true, cond-false}
@@ -10,8 +10,8 @@ use Rattle.sl_token.specs.declared.opening.Opening.TheVariants as opens
 use Rattle.sl_token.specs.declared.piece.Piece.{Piece}
 use Rattle.sl_token.specs.declared.piece.Piece.TheVariants.{Blank, Token, Fault}
 use Rattle.sl_token.specs.Characters.{continue_len}
-use Rattle.sl_token.specs.Spellings.{is_space, is_digit, is_operator, is_mark, begins_line_comment, begins_comment, line_len, operator_len, comment_len, is_sign, comment_by, comment_piece, operator_piece, number_piece}
-use Rattle.sl_token.specs.Longest.{FirstBytes, IsSpace, IsLineComment, IsBlockComment, IsOperator, IsNumber, Spells}
+use Rattle.sl_token.specs.Spellings.{is_space, is_digit, is_operator, is_mark, begins_line_comment, begins_comment, line_len, operator_len, is_sign, operator_piece, number_piece}
+use Rattle.sl_token.specs.Longest.{FirstBytes, IsSpace, IsLineComment, IsOperator, IsNumber, Spells}
 use Rattle.sl_token.proofs.Within.{Begun, passing, within, prefix_some, operator_some, operator_len_within}
 
 -- this is spelled behind this opening, and nothing longer
@@ -62,21 +62,6 @@ line_longest bytes h = (
     two = run_most test bytes 2 (
         (let second = slashes 1 (omega arith) in let there = within bytes 1 (omega arith) in omega arith),
         λ place less. other (slice_index bytes place) (λ is. let slash = slashes place less in omega arith),
-    )
-
-pub block_longest : (bytes : List ℕ) → Begun opens.BlockComment bytes → Longest (IsBlockComment bytes) (comment_piece bytes)
-unfolding comment_piece
-block_longest bytes h = by (comment_len 1 0 (drop 2 bytes)) refl
-  where
-    by : (len : Option ℕ) → comment_len 1 0 (drop 2 bytes) ≡ len → Longest (IsBlockComment bytes) (comment_by len)
-    by None e = tt
-    by (Some len) e = (
-        record { begins = h; len = len; is = refl; closes = e },
-        λ m spelled.
-        let other : Some spelled.len ≡ Some len = sym spelled.closes ∙ e in
-        let same : spelled.len ≡ len = cc in
-        let is = spelled.is in
-        omega arith,
     )
 
 pub mark_longest : (bytes : List ℕ) → Begun opens.Mark bytes → Longest (Spells opens.Mark bytes) (Token kind.Mark 1)
