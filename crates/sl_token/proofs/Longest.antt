@@ -4,13 +4,12 @@ pub mod Comments
 pub mod Texts
 pub mod Names
 pub mod Letters
-use Rattle.std.proofs.Common.{◌≡◌, ℕ, ◌≤◌, List, subst}
+use Rattle.std.proofs.Common.{◌≡◌, ℕ, List, subst}
 use Rattle.sl_text.specs.declared.token.Kind.{Kind}
 use Rattle.sl_text.specs.declared.token.Kind.TheVariants as kind
 use Rattle.sl_token.specs.declared.opening.Opening.{Opening}
 use Rattle.sl_token.specs.declared.opening.Opening.TheVariants as opens
-use Rattle.sl_token.specs.declared.piece.Piece.{Piece}
-use Rattle.sl_token.specs.declared.piece.Piece.TheVariants.{Blank, Token, Fault}
+use Rattle.sl_token.specs.declared.piece.Piece.TheVariants.{Blank, Token}
 use Rattle.sl_token.specs.Spellings.{opening_of, piece_by, piece_of}
 use Rattle.sl_token.specs.Longest.{Spells, IsLongest}
 use Rattle.sl_token.proofs.Within.{Begun, begun}

@@ -1,12 +1,12 @@
 -- What spells a blank or a token, with no word on how it is found. What stands at a place is the longest that is spelled there.
-use Rattle.std.specs.Prelude.{◌≡◌, ◌≢◌, ◌⊎◌, ℕ, zero, suc, ◌+◌, ◌<◌, ◌≤◌, List, [], ◌∷◌, length, take, drop, slice_index, Bool, true, false, not, ◌&&◌, ◌==◌}
+use Rattle.std.specs.Prelude.{◌≡◌, ◌≢◌, ◌⊎◌, ℕ, zero, suc, ◌+◌, ◌<◌, ◌≤◌, List, [], ◌∷◌, ◌++◌, length, take, drop, slice_index, Bool, true, false, not, ◌&&◌, ◌==◌}
 use Rattle.std.specs.List.{All}
 use Rattle.std.specs.Char.{IsScalar, encode_utf8}
 use Rattle.std.specs.Str.{encode_utf8_all}
 use Rattle.unicode_ident.specs.Ident.{is_xid_continue}
 use Rattle.sl_token.specs.declared.opening.Opening.{Opening}
 use Rattle.sl_token.specs.declared.opening.Opening.TheVariants as opens
-use Rattle.sl_token.specs.Characters.{begins_identifier, continue_len}
+use Rattle.sl_token.specs.Characters.{begins_identifier}
 use Rattle.sl_token.specs.Spellings.{is_space, is_digit, is_operator, is_mark, begins_line_comment, begins_block_comment, begins_comment, begins_triple, escape_len, opening_of}
 
 -- runs
@@ -105,7 +105,7 @@ pub record IsQuoted (bytes : List ℕ) (n : ℕ) : Type 0 where
   pub on_line : (place : ℕ) → place < len → slice_index (drop 1 bytes) place ≢ 10
   pub marks : (place : ℕ) → place < len → slice_index (drop 1 bytes) place ≡ 34 → is_escaped_at (drop 1 bytes) place ≡ true
   pub escapes : (place : ℕ) → place < len → slice_index (drop 1 bytes) place ≡ 92 → is_escaped_at (drop 1 bytes) place ≡ false
-    → escape_len (drop place (take len (drop 1 bytes))) ≢ 0
+      → escape_len (drop place (take len (drop 1 bytes))) ≢ 0
 
 -- behind so many bytes stands a text on its line that is taken as it is
 pub record IsRaw (bytes : List ℕ) (at n : ℕ) : Type 0 where
@@ -114,7 +114,7 @@ pub record IsRaw (bytes : List ℕ) (at n : ℕ) : Type 0 where
   pub is : n ≡ at + len + 2
   pub closed : slice_index (drop (at + 1) bytes) len ≡ 34
   pub content : (place : ℕ) → place < len
-    → (slice_index (drop (at + 1) bytes) place ≢ 34) × (slice_index (drop (at + 1) bytes) place ≢ 10)
+      → (slice_index (drop (at + 1) bytes) place ≢ 34) × (slice_index (drop (at + 1) bytes) place ≢ 10)
 
 -- names
 
@@ -136,11 +136,15 @@ pub record IsIdentifier (bytes : List ℕ) (n : ℕ) : Type 0 where
 abbrev pub IsName : List ℕ → ℕ → Type 0
 IsName bytes n = IsIdentifier bytes n × (take n bytes ≢ 95 ∷ [])
 
+-- these bytes begin with no character that may continue an identifier
+abbrev pub NothingContinues : List ℕ → Type 0
+NothingContinues bytes = (character : ℕ) (rest : List ℕ) → Continues character → bytes ≡ encode_utf8 character ++ rest → ⊥
+
 -- an identifier that no character behind it continues, and a text directly behind it
 pub record IsPrefixed (bytes : List ℕ) (n : ℕ) : Type 0 where
   pub at : ℕ
   pub name : IsName bytes at
-  pub whole : continue_len (drop at bytes) ≡ 0
+  pub whole : NothingContinues (drop at bytes)
   pub text : IsTriple bytes at n ⊎ IsRaw bytes at n
 
 -- the UTF-8 of a character

@@ -1,10 +1,8 @@
 -- Comments of the form `/* */`, with others inside them.
-use Rattle.std.proofs.Common.{◌≡◌, ◌≢◌, ◌⊎◌, ℕ, zero, suc, ◌+◌, ◌-◌, ◌<◌, ◌≤◌, List, [], ◌∷◌, length, drop, slice_index, Bool, true, false, cond, not, ◌&&◌, ◌||◌, ◌==◌, Option, Some, None, refl, sym, ap, subst, ◌∙◌, arith, ⊎_elim, inl, inr}
-use Rattle.std.proofs.lemmas.Bool.{cond_both, both_ways, and_parts, eqb-true, eqb-false, ne_eqb, cases_Bool, cases_eq, cond-true, cond-false}
+use Rattle.std.proofs.Common.{◌≡◌, ℕ, zero, suc, ◌+◌, ◌-◌, ◌<◌, List, [], ◌∷◌, drop, true, false, cond, ◌&&◌, ◌==◌, Option, Some, None, refl, sym, ap, subst, ◌∙◌, arith}
+use Rattle.std.proofs.lemmas.Bool.{cond_both, both_ways, and_parts, eqb-true, ne_eqb, cond-false}
 use Rattle.std.proofs.lemmas.Option.{same_Some}
 use Rattle.sl_token.specs.declared.opening.Opening.TheVariants as opens
-use Rattle.sl_token.specs.declared.piece.Piece.{Piece}
-use Rattle.sl_token.specs.declared.piece.Piece.TheVariants.{Blank, Token, Fault}
 use Rattle.sl_token.specs.Spellings.{begins_block_comment, more, comment_len, comment_by, comment_piece}
 use Rattle.sl_token.specs.Longest.{Body, Empty, Byte, Comment, spelled, body_len, ends_block_comment, IsBody, IsBlockComment}
 use Rattle.sl_token.proofs.Within.{Begun}
@@ -134,24 +132,24 @@ scan (byte ∷ bytes) =
     let rest = scan bytes in (
       λ depth. counted (suc depth) (byte ∷ bytes) (comment_len (suc depth) byte bytes) (rest.1 depth byte),
       λ depth before.
-      let P = ClosesIf (suc depth) (before ∷ byte ∷ bytes) 1 in
-      let ended : Option ℕ = cond (suc depth == 1) (Some 1) (more 1 (comment_len (suc depth - 1) 0 bytes)) in
-      let on = more 1 (comment_len (suc depth) byte bytes) in
-      cond_both (before == 47 && byte == 42) (more 1 (comment_len (suc depth + 1) 0 bytes)) (cond (before == 42 && byte == 47) ended on) P
-      (λ e.
-      let both = and_parts (before == 47) (byte == 42) e in
-      let same : suc (suc depth) ≡ suc depth + 1 = omega arith in
-      subst (λ before. ClosesIf (suc depth) (before ∷ byte ∷ bytes) 1 (more 1 (comment_len (suc depth + 1) 0 bytes))) (sym (eqb-true before 47 both.0))
-      (subst (λ byte. ClosesIf (suc depth) (47 ∷ byte ∷ bytes) 1 (more 1 (comment_len (suc depth + 1) 0 bytes))) (sym (eqb-true byte 42 both.1))
-      (subst (λ depths. ClosesIf (suc depth) (47 ∷ 42 ∷ bytes) 1 (more 1 (comment_len depths 0 bytes))) same
-      (opened depth bytes (comment_len (suc (suc depth)) 0 bytes) (rest.0 (suc depth))))))
-      (λ a.
-      cond_both (before == 42 && byte == 47) ended on P
-      (λ e.
-      let both = and_parts (before == 42) (byte == 47) e in
-      subst (λ before. ClosesIf (suc depth) (before ∷ byte ∷ bytes) 1 ended) (sym (eqb-true before 42 both.0))
-      (subst (λ byte. ClosesIf (suc depth) (42 ∷ byte ∷ bytes) 1 ended) (sym (eqb-true byte 47 both.1)) (at_end depth bytes rest.0)))
-      (λ b. stepped depth before (byte ∷ bytes) (comment_len (suc depth) byte bytes) a b (rest.1 depth byte))),
+          let P = ClosesIf (suc depth) (before ∷ byte ∷ bytes) 1 in
+          let ended : Option ℕ = cond (suc depth == 1) (Some 1) (more 1 (comment_len (suc depth - 1) 0 bytes)) in
+          let on = more 1 (comment_len (suc depth) byte bytes) in
+          cond_both (before == 47 && byte == 42) (more 1 (comment_len (suc depth + 1) 0 bytes)) (cond (before == 42 && byte == 47) ended on) P
+          (λ e.
+          let both = and_parts (before == 47) (byte == 42) e in
+          let same : suc (suc depth) ≡ suc depth + 1 = omega arith in
+          subst (λ before. ClosesIf (suc depth) (before ∷ byte ∷ bytes) 1 (more 1 (comment_len (suc depth + 1) 0 bytes))) (sym (eqb-true before 47 both.0))
+          (subst (λ byte. ClosesIf (suc depth) (47 ∷ byte ∷ bytes) 1 (more 1 (comment_len (suc depth + 1) 0 bytes))) (sym (eqb-true byte 42 both.1))
+          (subst (λ depths. ClosesIf (suc depth) (47 ∷ 42 ∷ bytes) 1 (more 1 (comment_len depths 0 bytes))) same
+          (opened depth bytes (comment_len (suc (suc depth)) 0 bytes) (rest.0 (suc depth))))))
+          (λ a.
+          cond_both (before == 42 && byte == 47) ended on P
+          (λ e.
+          let both = and_parts (before == 42) (byte == 47) e in
+          subst (λ before. ClosesIf (suc depth) (before ∷ byte ∷ bytes) 1 ended) (sym (eqb-true before 42 both.0))
+          (subst (λ byte. ClosesIf (suc depth) (42 ∷ byte ∷ bytes) 1 ended) (sym (eqb-true byte 47 both.1)) (at_end depth bytes rest.0)))
+          (λ b. stepped depth before (byte ∷ bytes) (comment_len (suc depth) byte bytes) a b (rest.1 depth byte))),
     )
 
 -- the first two bytes
@@ -186,10 +184,10 @@ block_longest bytes h = by (comment_len 1 0 (drop 2 bytes)) refl ((scan (drop 2 
             well = closes.4;
           },
           λ m it.
-          let is = it.is in
-          let behind = 42 ∷ 47 ∷ it.behind in
-          let read : comment_len 1 0 (drop 2 bytes) ≡ Some (body_len it.body + 2) =
-          ap (λ bytes. comment_len 1 0 (drop 2 bytes)) it.whole ∙ (passed it.body 1 behind (omega arith) it.well ∙ ap (more (body_len it.body)) (last_end it.behind)) in
-          let same : body_len it.body + 2 ≡ len = same_Some (body_len it.body + 2) len (sym read ∙ e) in
-          omega arith,
+              let is = it.is in
+              let behind = 42 ∷ 47 ∷ it.behind in
+              let read : comment_len 1 0 (drop 2 bytes) ≡ Some (body_len it.body + 2) =
+              ap (λ bytes. comment_len 1 0 (drop 2 bytes)) it.whole ∙ (passed it.body 1 behind (omega arith) it.well ∙ ap (more (body_len it.body)) (last_end it.behind)) in
+              let same : body_len it.body + 2 ≡ len = same_Some (body_len it.body + 2) len (sym read ∙ e) in
+              omega arith,
         )

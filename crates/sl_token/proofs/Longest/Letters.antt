@@ -1,20 +1,19 @@
 -- Letters and Symbols.
-use Rattle.std.proofs.Common.{◌≡◌, ◌≢◌, ◌⊎◌, ℕ, ◌+◌, ◌<◌, ◌≤◌, List, [], ◌∷◌, ◌++◌, length, take, drop, slice_index, Bool, true, false, not, ◌&&◌, ◌||◌, ◌==◌, refl, sym, ap, subst, ◌∙◌, arith, ⊎_elim, inl, inr, take-append-drop, length-take-le}
-use Rattle.std.proofs.lemmas.Bool.{cond_both, both_ways, and_parts, and_from, or_parts, eq-eqb, ne_eqb, eqb-true, eqb-false, not-true, not-false, not_from_false, cases_eq}
+use Rattle.std.proofs.Common.{◌≡◌, ◌≢◌, ◌⊎◌, ℕ, ◌+◌, ◌<◌, List, ◌++◌, length, drop, slice_index, Bool, true, false, not, ◌&&◌, ◌||◌, ◌==◌, refl, sym, ap, subst, ◌∙◌, arith, ⊎_elim, inl, inr, take-append-drop, length-take-le}
+use Rattle.std.proofs.lemmas.Bool.{cond_both, both_ways, and_parts, and_from, or_parts, eq-eqb, ne_eqb, eqb-true, eqb-false, not-true, not_from_false, cases_eq}
 use Rattle.bstr.specs.Utf8.{Decoded, good, decoded}
 use Rattle.bstr.proofs.lemmas.PieceLemmas.{value-1}
 use Rattle.bstr.proofs.lemmas.EncodeLemmas.{decoded-encode}
 use Rattle.std.specs.Char.{encode_utf8}
 use Rattle.sl_text.specs.declared.token.Kind.TheVariants as kind
 use Rattle.sl_token.specs.declared.opening.Opening.TheVariants as opens
-use Rattle.sl_token.specs.declared.piece.Piece.{Piece}
-use Rattle.sl_token.specs.declared.piece.Piece.TheVariants.{Blank, Token, Fault}
+use Rattle.sl_token.specs.declared.piece.Piece.TheVariants.{Token, Fault}
 use Rattle.sl_token.specs.Characters.{len_if, char_len, start_len}
-use Rattle.sl_token.specs.Spellings.{escape_len, is_escaped, is_unit, name_len, identifier_len, symbol_piece, letter_piece}
-use Rattle.sl_token.specs.Longest.{IsName, IsCharacter, IsLetter, IsSymbol, Spells}
+use Rattle.sl_token.specs.Spellings.{escape_len, name_len, identifier_len, symbol_piece, letter_piece}
+use Rattle.sl_token.specs.Longest.{IsCharacter, IsLetter, IsSymbol, Spells}
 use Rattle.sl_token.proofs.Within.{Begun, within}
 use Rattle.sl_token.proofs.Longest.Runs.{Longest}
-use Rattle.sl_token.proofs.Longest.Names.{Read, reads, name_spells, identifier_most, is_name}
+use Rattle.sl_token.proofs.Longest.Names.{reads, identifier_most, is_name}
 
 -- an escape begins with a backslash
 backslash : (bytes : List ℕ) → escape_len bytes ≢ 0 → slice_index bytes 0 ≡ 92
@@ -83,30 +82,28 @@ module _ (bytes : List ℕ) (opened : slice_index bytes 0 ≡ 39) where
       let both = closes_some content escape e in
       let some = both.0 in
       let letter : IsLetter bytes (escape + 2) = record { len = escape; is = refl; some = some; one = inl refl; closed = both.1 } in
-      let short : character ≡ 1 = one_byte content (backslash content (λ none. omega arith)) in
-      (
+      let short : character ≡ 1 = one_byte content (backslash content (λ none. omega arith)) in (
         (opened, inl letter),
         λ m spelled. ⊎_elim
-        (λ is. let it = is.is in ⊎_elim (λ same. omega arith) (λ one. let same = character_len content is.len one in omega arith) is.one)
-        (λ is. absurd (is.no_letter (escape + 2) letter))
-        spelled.1,
+            (λ is. let it = is.is in ⊎_elim (λ same. omega arith) (λ one. let same = character_len content is.len one in omega arith) is.one)
+            (λ is. absurd (is.no_letter (escape + 2) letter))
+            spelled.1,
       )
 
   of_character : closes content escape ≡ false → closes content character ≡ true → Longest Either (Token kind.Letter (character + 2))
   of_character none e =
       let both = closes_some content character e in
-      let letter : IsLetter bytes (character + 2) = record { len = character; is = refl; some = both.0; one = inr (character_is content (λ none. let some = both.0 in omega arith)); closed = both.1 } in
-      (
+      let letter : IsLetter bytes (character + 2) = record { len = character; is = refl; some = both.0; one = inr (character_is content (λ none. let some = both.0 in omega arith)); closed = both.1 } in (
         (opened, inl letter),
         λ m spelled. ⊎_elim
-        (λ is.
-        let it = is.is in
-        ⊎_elim
-        (λ same. absurd (both_ways (closes content escape) none (subst (λ len. closes content len ≡ true) same (closes_by content is.len is.some is.closed))))
-        (λ one. let same = character_len content is.len one in omega arith)
-        is.one)
-        (λ is. absurd (is.no_letter (character + 2) letter))
-        spelled.1,
+            (λ is.
+            let it = is.is in
+            ⊎_elim
+            (λ same. absurd (both_ways (closes content escape) none (subst (λ len. closes content len ≡ true) same (closes_by content is.len is.some is.closed))))
+            (λ one. let same = character_len content is.len one in omega arith)
+            is.one)
+            (λ is. absurd (is.no_letter (character + 2) letter))
+            spelled.1,
       )
 
   -- neither closes
@@ -129,13 +126,12 @@ module _ (bytes : List ℕ) (opened : slice_index bytes 0 ≡ 39) where
       (λ a e. absurd (both_ways false refl e))
       (λ a e.
       let parts = or_parts nothing lone a in
-      let some : start_len content ≢ 0 = eqb-false (start_len content) 0 parts.0 in
-      (
+      let some : start_len content ≢ 0 = eqb-false (start_len content) 0 parts.0 in (
         (opened, inr (record { len = name; is = refl; name = is_name content some parts.1; no_letter = none })),
         λ m spelled. ⊎_elim
-        (λ is. absurd (none m is))
-        (λ is. let it = is.is in let most = identifier_most content is.len is.name.0 in omega arith)
-        spelled.1,
+            (λ is. absurd (none m is))
+            (λ is. let it = is.is in let most = identifier_most content is.len is.name.0 in omega arith)
+            spelled.1,
       )))
       (λ e. cond_both (slice_index content 0 == 92 && escape_len content == 0) (Fault 5 1) (Fault 3 0) (Longest Either) (λ e. tt) (λ e. tt))
 

@@ -1,25 +1,24 @@
 -- Names, alone and with a text behind them.
-use Rattle.std.proofs.Common.{◌≡◌, ◌≢◌, ◌⊎◌, ℕ, zero, suc, ◌+◌, ◌-◌, ◌<◌, ◌≤◌, List, [], ◌∷◌, ◌++◌, length, take, drop, slice_index, Bool, true, false, cond, not, ◌&&◌, ◌||◌, ◌==◌, Option, Some, None, refl, sym, ap, subst, ◌∙◌, arith, ⊎_elim, inl, inr, drop-drop, length-drop, length-take-le, get_or-drop, take-append-drop, append_assoc, length-append, take-add, take_at, drop_at}
+use Rattle.std.proofs.Common.{◌≡◌, ◌≢◌, ◌⊎◌, ℕ, zero, suc, ◌+◌, ◌-◌, ◌<◌, ◌≤◌, List, [], ◌∷◌, ◌++◌, length, take, drop, slice_index, Bool, true, false, ◌&&◌, ◌==◌, Option, Some, None, refl, sym, ap, subst, ◌∙◌, arith, ⊎_elim, inl, inr, drop-drop, length-drop, length-take-le, get_or-drop, take-append-drop, append_assoc, length-append, take-add, take_at, drop_at}
 use Rattle.std.specs.List.{All}
 use Rattle.std.specs.Char.{IsScalar, encode_utf8}
 use Rattle.std.specs.Str.{encode_utf8_all}
-use Rattle.std.proofs.lemmas.Bool.{cond_both, both_ways, and_parts, and_cases, and_from, eq-eqb, eqb-true, eqb-false, cases_Bool, cases_lt, cases_eq, cond-true, cond-false}
+use Rattle.std.proofs.lemmas.Bool.{cond_both, both_ways, and_parts, and_from, eq-eqb, eqb-true, eqb-false, cases_Bool, cases_lt, cases_eq, cond-true, cond-false}
 use Rattle.std.proofs.lemmas.Bool.Decides.{nat_tests}
 use Rattle.std.proofs.lemmas.List.Elements.{All-nil, All-cons, All-head, All-tail}
 use Rattle.unicode_ident.specs.Ident.{is_xid_continue}
-use Rattle.bstr.specs.Utf8.{Decoded, good, decoded}
+use Rattle.bstr.specs.Utf8.{Decoded, decoded}
 use Rattle.bstr.proofs.lemmas.PieceLemmas.{size-within}
-use Rattle.bstr.proofs.lemmas.SoundLemmas.{SpellsChar, SpellsChar-decoded}
+use Rattle.bstr.proofs.lemmas.SoundLemmas.{SpellsChar-decoded}
 use Rattle.bstr.proofs.lemmas.EncodeLemmas.{decoded-encode}
-use Rattle.sl_text.specs.declared.token.Kind.{Kind}
 use Rattle.sl_text.specs.declared.token.Kind.TheVariants as kind
 use Rattle.sl_token.specs.declared.opening.Opening.TheVariants as opens
 use Rattle.sl_token.specs.declared.piece.Piece.{Piece}
 use Rattle.sl_token.specs.declared.piece.Piece.TheVariants.{Blank, Token, Fault}
 use Rattle.sl_token.specs.Characters.{len_if, begins_identifier, start_len, continue_len}
 use Rattle.sl_token.specs.Spellings.{begins_triple, name_len, is_word, triple_piece, raw_piece, name_piece}
-use Rattle.sl_token.specs.Longest.{Continues, IsTriple, IsRaw, IsIdentifier, IsName, IsPrefixed, Spells}
-use Rattle.sl_token.proofs.Within.{Begun, within, name_len_within, begins_continues, starts_continues}
+use Rattle.sl_token.specs.Longest.{Continues, NothingContinues, IsTriple, IsRaw, IsIdentifier, IsName, IsPrefixed, Spells}
+use Rattle.sl_token.proofs.Within.{Begun, name_len_within, begins_continues, starts_continues}
 use Rattle.sl_token.proofs.Longest.Runs.{Longest}
 use Rattle.sl_token.proofs.Longest.Texts.{triple_longest, raw_longest}
 
@@ -174,13 +173,17 @@ unfolding encode_utf8
 encode_some character = grind (arith, nat_tests)
 
 -- a character that continues an identifier
-character_found : (character : ℕ) (rest : List ℕ) → Continues character → name_len 0 (encode_utf8 character ++ rest) ≡ length (encode_utf8 character) + name_len 0 rest
+continue_spelled : (character : ℕ) (rest : List ℕ) → Continues character → continue_len (encode_utf8 character ++ rest) ≡ length (encode_utf8 character)
 unfolding continue_len
+continue_spelled character rest is =
+    let len = length (encode_utf8 character) in
+    ap (λ (read : Decoded). len_if is_xid_continue read.char read.size) (decoded-encode character rest is.0) ∙ cond-true (is_xid_continue character) len 0 is.1
+
+character_found : (character : ℕ) (rest : List ℕ) → Continues character → name_len 0 (encode_utf8 character ++ rest) ≡ length (encode_utf8 character) + name_len 0 rest
 character_found character rest is =
     let bytes = encode_utf8 character ++ rest in
     let len = length (encode_utf8 character) in
-    let read : decoded bytes ≡ good character len = decoded-encode character rest is.0 in
-    let found : continue_len bytes ≡ len = ap (λ (read : Decoded). len_if is_xid_continue read.char read.size) read ∙ cond-true (is_xid_continue character) len 0 is.1 in
+    let found : continue_len bytes ≡ len = continue_spelled character rest is in
     let some = encode_some character in
     let behind : drop len bytes ≡ rest = drop_at (encode_utf8 character) rest len refl in
     subst (λ n. name_len 0 bytes ≡ n + name_len 0 (drop n bytes)) found (name_step bytes (λ none. positive len some (sym found ∙ none))) ∙ ap (λ rest. len + name_len 0 rest) behind
@@ -212,6 +215,23 @@ identifier_found bytes m is =
 
 pub identifier_most : (bytes : List ℕ) (m : ℕ) → IsIdentifier bytes m → m ≤ name_len 0 bytes
 identifier_most bytes m is = let found = identifier_found bytes m is in omega arith
+
+-- that no character continues an identifier, by its bytes and by `continue_len`
+nothing_continues : (bytes : List ℕ) → continue_len bytes ≡ 0 → NothingContinues bytes
+nothing_continues bytes none character rest is spelled =
+    let found = ap continue_len spelled ∙ continue_spelled character rest is in
+    let some = encode_some character in
+    absurd (omega arith)
+
+none_continues : (bytes : List ℕ) → NothingContinues bytes → continue_len bytes ≡ 0
+none_continues bytes nothing =
+    ⊎_elim
+    (λ none. none)
+    (λ some.
+    let read = continue_reads bytes some in
+    let rest = drop (continue_len bytes) bytes in
+    absurd (nothing read.character rest (read.scalar, read.passed) (sym (take-append-drop (continue_len bytes) bytes) ∙ ap (λ front. front ++ rest) read.spelled)))
+    (cases_eq (continue_len bytes) 0)
 
 -- an identifier that no character behind it continues
 whole_name : (bytes : List ℕ) (m : ℕ) → IsIdentifier bytes m → continue_len (drop m bytes) ≡ 0 → m ≡ name_len 0 bytes
@@ -262,7 +282,7 @@ module _ (bytes : List ℕ) (begun : start_len bytes ≢ 0) where
 
   -- a text stands behind the whole name
   place : (m : ℕ) (is : IsPrefixed bytes m) → is.at ≡ len
-  place m is = whole_name bytes is.at is.name.0 is.whole
+  place m is = whole_name bytes is.at is.name.0 (none_continues (drop is.at bytes) is.whole)
 
   triple_behind : (m : ℕ) (is : IsPrefixed bytes m) → IsTriple bytes is.at m → IsTriple bytes len m
   triple_behind m is text = subst (λ at. IsTriple bytes at m) (place m is) text
@@ -274,28 +294,27 @@ module _ (bytes : List ℕ) (begun : start_len bytes ≢ 0) where
   mark_alone : (len == 1 && slice_index bytes 0 == 95) ≡ true → Longest Either (Token kind.Mark 1)
   mark_alone e =
       let parts = and_parts (len == 1) (slice_index bytes 0 == 95) e in
-      let one : len ≡ 1 = eqb-true len 1 parts.0 in
-      (
+      let one : len ≡ 1 = eqb-true len 1 parts.0 in (
         inl (subst (IsIdentifier bytes) one (name_spells bytes begun)),
         λ m spelled. ⊎_elim
-        (λ is. let most = identifier_most bytes m is in omega arith)
-        (λ is. absurd (is.name.1 (subst (λ n. take n bytes ≡ 95 ∷ []) (sym (place m is ∙ one)) (alone bytes (eqb-true (slice_index bytes 0) 95 parts.1)))))
-        spelled,
+            (λ is. let most = identifier_most bytes m is in omega arith)
+            (λ is. absurd (is.name.1 (subst (λ n. take n bytes ≡ 95 ∷ []) (sym (place m is ∙ one)) (alone bytes (eqb-true (slice_index bytes 0) 95 parts.1)))))
+            spelled,
       )
 
   -- an identifier
   pub is_name : (len == 1 && slice_index bytes 0 == 95) ≡ false → IsName bytes len
   is_name e = (
-      name_spells bytes begun,
-      λ is.
-      let lone = lone_byte bytes len 95 (name_len_within 0 bytes) is in
-      both_ways (len == 1 && slice_index bytes 0 == 95) e (and_from (len == 1) (slice_index bytes 0 == 95) (eq-eqb len 1 lone.0) (eq-eqb (slice_index bytes 0) 95 lone.1)),
+    name_spells bytes begun,
+    λ is.
+        let lone = lone_byte bytes len 95 (name_len_within 0 bytes) is in
+        both_ways (len == 1 && slice_index bytes 0 == 95) e (and_from (len == 1) (slice_index bytes 0 == 95) (eq-eqb len 1 lone.0) (eq-eqb (slice_index bytes 0) 95 lone.1)),
   )
 
   triple_after : IsName bytes len → begins_triple (drop len bytes) ≡ true → Longest Either (triple_piece kind.Prefixed bytes len)
   triple_after name e =
       widened (IsTriple bytes len) Either
-      (λ n text. inr (record { at = len; name = name; whole = name_whole bytes; text = inl text }))
+      (λ n text. inr (record { at = len; name = name; whole = nothing_continues (drop len bytes) (name_whole bytes); text = inl text }))
       (λ n m text spelled. ⊎_elim
       (λ is. inl (let most = identifier_most bytes m is in let is = text.is in let apart = text.apart in omega arith))
       (λ is. ⊎_elim
@@ -308,6 +327,7 @@ module _ (bytes : List ℕ) (begun : start_len bytes ≢ 0) where
     where
       second : slice_index (drop (len + 1) bytes) 0 ≡ 34
       second = second_mark len bytes e
+
       short : (n m : ℕ) → IsTriple bytes len n → IsRaw bytes len m → m ≤ n
       short n m text raw =
           let is = text.is in
@@ -322,7 +342,7 @@ module _ (bytes : List ℕ) (begun : start_len bytes ≢ 0) where
   raw_after name missing e =
       let mark : slice_index bytes len ≡ 34 = subst (λ n. slice_index bytes n ≡ 34) same (sym (get_or-drop len bytes 0 0) ∙ e) in
       widened (IsRaw bytes len) Either
-      (λ n text. inr (record { at = len; name = name; whole = name_whole bytes; text = inr text }))
+      (λ n text. inr (record { at = len; name = name; whole = nothing_continues (drop len bytes) (name_whole bytes); text = inr text }))
       (λ n m text spelled. ⊎_elim
       (λ is. inl (let most = identifier_most bytes m is in let is = text.is in omega arith))
       (λ is. ⊎_elim
@@ -338,14 +358,14 @@ module _ (bytes : List ℕ) (begun : start_len bytes ≢ 0) where
 
   name_alone : IsName bytes len → begins_triple (drop len bytes) ≡ false → (slice_index (drop len bytes) 0 ≡ 34 → ⊥) → Spells opens.Name bytes len × ((m : ℕ) → Spells opens.Name bytes m → m ≤ len)
   name_alone name missing none = (
-      inl name.0,
-      λ m spelled. ⊎_elim
-      (λ is. identifier_most bytes m is)
-      (λ is. ⊎_elim
-      (λ other. absurd (both_ways (begins_triple (drop len bytes)) missing (triple_behind m is other).opened))
-      (λ other. absurd (none (get_or-drop len bytes 0 0 ∙ subst (λ n. slice_index bytes n ≡ 34) same (raw_behind m is other).opened)))
-      is.text)
-      spelled,
+    inl name.0,
+    λ m spelled. ⊎_elim
+        (λ is. identifier_most bytes m is)
+        (λ is. ⊎_elim
+        (λ other. absurd (both_ways (begins_triple (drop len bytes)) missing (triple_behind m is other).opened))
+        (λ other. absurd (none (get_or-drop len bytes 0 0 ∙ subst (λ n. slice_index bytes n ≡ 34) same (raw_behind m is other).opened)))
+        is.text)
+        spelled,
   )
     where
       same : len ≡ len + 0

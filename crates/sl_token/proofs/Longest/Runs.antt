@@ -1,16 +1,15 @@
 -- Runs of bytes: spaces, comments on one line, operators, Marks and numbers.
-use Rattle.std.proofs.Common.{◌≡◌, ◌≢◌, ◌⊎◌, ℕ, zero, suc, ◌+◌, ◌-◌, ◌<◌, ◌≤◌, List, [], ◌∷◌, length, take, drop, slice_index, Bool, true, false, cond, not, ◌&&◌, ◌||◌, ◌==◌, nat_lt, Option, Some, None, refl, sym, ap, subst, ◌∙◌, arith, ⊎_elim, inl, inr}
+use Rattle.std.proofs.Common.{◌≡◌, ◌≢◌, ℕ, zero, suc, ◌+◌, ◌<◌, ◌≤◌, List, [], ◌∷◌, length, take, drop, slice_index, Bool, true, false, not, ◌&&◌, ◌||◌, ◌==◌, nat_lt, refl, arith, ⊎_elim, inl, inr}
 use Rattle.std.specs.List.{prefix_len}
-use Rattle.std.proofs.lemmas.Bool.{cond_both, both_ways, and_parts, or_parts, and_cases, eqb-true, eqb-false, ltb-false, not-true, cases_Bool, cases_lt, cases_eq, cond-true, cond-false}
+use Rattle.std.proofs.lemmas.Bool.{cond_both, both_ways, and_parts, or_parts, and_cases, eqb-true, eqb-false, ltb-false, not-true, cases_Bool, cases_lt, cond-true, cond-false}
 use Rattle.std.proofs.lemmas.Bool.Decides.{nat_tests}
 use Rattle.std.proofs.lemmas.List.Sums.{prefix_len-le-length, prefix_len_passes, prefix_len_stops}
-use Rattle.sl_text.specs.declared.token.Kind.{Kind}
 use Rattle.sl_text.specs.declared.token.Kind.TheVariants as kind
 use Rattle.sl_token.specs.declared.opening.Opening.TheVariants as opens
 use Rattle.sl_token.specs.declared.piece.Piece.{Piece}
 use Rattle.sl_token.specs.declared.piece.Piece.TheVariants.{Blank, Token, Fault}
 use Rattle.sl_token.specs.Characters.{continue_len}
-use Rattle.sl_token.specs.Spellings.{is_space, is_digit, is_operator, is_mark, begins_line_comment, begins_comment, line_len, operator_len, is_sign, operator_piece, number_piece}
+use Rattle.sl_token.specs.Spellings.{is_space, is_digit, is_operator, begins_line_comment, begins_comment, line_len, operator_len, is_sign, operator_piece, number_piece}
 use Rattle.sl_token.specs.Longest.{FirstBytes, IsSpace, IsLineComment, IsOperator, IsNumber, Spells}
 use Rattle.sl_token.proofs.Within.{Begun, passing, within, prefix_some, operator_some, operator_len_within}
 
@@ -35,33 +34,36 @@ run_most test bytes m first =
 pub space_longest : (bytes : List ℕ) → Begun opens.Space bytes → Longest (IsSpace bytes) (Blank (prefix_len is_space bytes))
 unfolding is_space
 space_longest bytes h = (
-    record { some = prefix_some is_space bytes (passing is_space bytes refl h) h; spaces = run_passes is_space bytes },
-    λ m spelled. run_most is_space bytes m spelled.spaces,
+  record { some = prefix_some is_space bytes (passing is_space bytes refl h) h; spaces = run_passes is_space bytes },
+  λ m spelled. run_most is_space bytes m spelled.spaces,
 )
 
 pub line_longest : (bytes : List ℕ) → Begun opens.LineComment bytes → Longest (IsLineComment bytes) (Blank (line_len bytes))
 unfolding begins_line_comment line_len
 line_longest bytes h = (
-    record {
-      begins = h;
-      marks = two;
-      line = ((run_passes test bytes).0, λ place less is. both_ways (test (slice_index bytes place)) (rw is refl) ((run_passes test bytes).1 place less));
-    },
-    λ m spelled. run_most test bytes m (spelled.line.0, λ place less. other (slice_index bytes place) (spelled.line.1 place less)),
+  record {
+    begins = h;
+    marks = two;
+    line = ((run_passes test bytes).0, λ place less is. both_ways (test (slice_index bytes place)) (rw is refl) ((run_passes test bytes).1 place less));
+  },
+  λ m spelled. run_most test bytes m (spelled.line.0, λ place less. other (slice_index bytes place) (spelled.line.1 place less)),
 )
   where
     test : ℕ → Bool
     test byte = not (byte == 10)
+
     other : (byte : ℕ) → byte ≢ 10 → test byte ≡ true
     other byte differs = grind (arith, nat_tests)
+
     slashes : (place : ℕ) → place < 2 → slice_index bytes place ≡ 47
     slashes zero less = eqb-true (slice_index bytes 0) 47 (and_parts (slice_index bytes 0 == 47) (slice_index bytes 1 == 47) h).0
     slashes (suc zero) less = eqb-true (slice_index bytes 1) 47 (and_parts (slice_index bytes 0 == 47) (slice_index bytes 1 == 47) h).1
     slashes (suc (suc place)) less = absurd (omega arith)
+
     two : 2 ≤ prefix_len test bytes
     two = run_most test bytes 2 (
-        (let second = slashes 1 (omega arith) in let there = within bytes 1 (omega arith) in omega arith),
-        λ place less. other (slice_index bytes place) (λ is. let slash = slashes place less in omega arith),
+      (let second = slashes 1 (omega arith) in let there = within bytes 1 (omega arith) in omega arith),
+      λ place less. other (slice_index bytes place) (λ is. let slash = slashes place less in omega arith),
     )
 
 pub mark_longest : (bytes : List ℕ) → Begun opens.Mark bytes → Longest (Spells opens.Mark bytes) (Token kind.Mark 1)
@@ -101,12 +103,12 @@ unfolding operator_piece
 operator_longest bytes h =
     let len = operator_len bytes in
     let is : Longest (IsOperator bytes) (Token kind.Operator len) = (
-        record {
-          some = operator_some bytes h.0 h.1;
-          operators = (operator_len_within bytes, λ place less. (operator_bytes bytes place less).0);
-          no_comment = λ place less. (operator_bytes bytes place less).1;
-        },
-        λ m spelled. operator_most bytes m spelled.operators.0 (λ place less. (spelled.operators.1 place less, spelled.no_comment place less)),
+      record {
+        some = operator_some bytes h.0 h.1;
+        operators = (operator_len_within bytes, λ place less. (operator_bytes bytes place less).0);
+        no_comment = λ place less. (operator_bytes bytes place less).1;
+      },
+      λ m spelled. operator_most bytes m spelled.operators.0 (λ place less. (spelled.operators.1 place less, spelled.no_comment place less)),
     ) in
     cond_both (is_sign (take len bytes)) (Token kind.Mark len) (Token kind.Operator len) (Longest (IsOperator bytes)) (λ e. is) (λ e. is)
 
@@ -128,9 +130,9 @@ number_longest bytes h =
         most = ltb-false 38 len first.1;
         digits = run_passes is_digit bytes;
         leading = ⊎_elim
-        (λ no. inr (eqb-false (slice_index bytes 0) 48 no))
-        (λ no. inl (let one = ltb-false 1 len no in omega arith))
-        (and_cases (slice_index bytes 0 == 48) (nat_lt 1 len) first.0);
+            (λ no. inr (eqb-false (slice_index bytes 0) 48 no))
+            (λ no. inl (let one = ltb-false 1 len no in omega arith))
+            (and_cases (slice_index bytes 0 == 48) (nat_lt 1 len) first.0);
       },
       λ m spelled. run_most is_digit bytes m spelled.digits,
     ))

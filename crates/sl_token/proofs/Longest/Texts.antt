@@ -1,17 +1,14 @@
 -- Texts: between three quotation marks on each side, between one on each side, and taken as they are.
-use Rattle.std.proofs.Common.{◌≡◌, ◌≢◌, ◌⊎◌, ℕ, zero, suc, ◌+◌, ◌-◌, ◌<◌, ◌≤◌, List, [], ◌∷◌, length, take, drop, slice_index, Bool, true, false, cond, not, ◌&&◌, ◌||◌, ◌==◌, Option, Some, None, refl, sym, ap, subst, ◌∙◌, arith, ⊎_elim, inl, inr, drop-drop, length-take-le, get_or-take, get_or-drop}
-use Rattle.std.specs.List.{prefix_len}
-use Rattle.std.proofs.lemmas.Bool.{cond_both, both_ways, and_parts, and_cases, and_left, and_right, or_cases, or_parts, eqb-true, eqb-false, ne_eqb, not-true, not-false, cases_Bool, cases_lt, cases_eq, cond-true, cond-false}
-use Rattle.std.proofs.lemmas.Bool.Decides.{nat_tests}
+use Rattle.std.proofs.Common.{◌≡◌, ◌≢◌, ℕ, zero, suc, ◌+◌, ◌-◌, ◌<◌, ◌≤◌, List, [], ◌∷◌, length, take, drop, slice_index, Bool, true, false, not, ◌&&◌, ◌||◌, ◌==◌, Option, Some, None, refl, sym, ap, subst, ◌∙◌, arith, ⊎_elim, drop-drop, length-take-le, get_or-take}
+use Rattle.std.proofs.lemmas.Bool.{cond_both, both_ways, and_parts, and_cases, and_left, and_right, or_cases, or_parts, eqb-true, eqb-false, not-true, not-false, cases_Bool, cases_lt, cond-true, cond-false}
 use Rattle.std.proofs.lemmas.List.Sums.{prefix_len_passes}
 use Rattle.sl_text.specs.declared.token.Kind.{Kind}
 use Rattle.sl_text.specs.declared.token.Kind.TheVariants as kind
 use Rattle.sl_token.specs.declared.opening.Opening.TheVariants as opens
-use Rattle.sl_token.specs.declared.piece.Piece.{Piece}
-use Rattle.sl_token.specs.declared.piece.Piece.TheVariants.{Blank, Token, Fault}
+use Rattle.sl_token.specs.declared.piece.Piece.TheVariants.{Token, Fault}
 use Rattle.sl_token.specs.Spellings.{begins_triple, more, raw_len, text_len, triple_len, escape_len, bad_escape, triple_by, triple_piece, quoted_by, quoted_piece, raw_piece}
-use Rattle.sl_token.specs.Longest.{IsTriple, IsQuoted, IsRaw, is_escaped_at, Spells}
-use Rattle.sl_token.proofs.Within.{Begun, within, text_len_within, triple_marks}
+use Rattle.sl_token.specs.Longest.{IsTriple, IsQuoted, IsRaw, is_escaped_at}
+use Rattle.sl_token.proofs.Within.{Begun, text_len_within}
 use Rattle.sl_token.proofs.Longest.Runs.{Longest}
 
 -- Three marks ----------------------------------------------------------------------------------------------------------
@@ -75,9 +72,9 @@ plain byte bytes h (Some len) ends =
 marked : (bytes : List ℕ) → Ends bytes → Ends (34 ∷ bytes)
 unfolding triple_len begins_triple
 marked bytes ends = (
-    shifted (34 ∷ bytes) 1 0 (omega arith) (triple_len 1 bytes) ends.1,
-    shifted (34 ∷ 34 ∷ bytes) 2 1 (omega arith) (triple_len 2 bytes) ends.2,
-    (0, omega arith, record { closed = refl; first = λ place less. absurd (omega arith) }),
+  shifted (34 ∷ bytes) 1 0 (omega arith) (triple_len 1 bytes) ends.1,
+  shifted (34 ∷ 34 ∷ bytes) 2 1 (omega arith) (triple_len 2 bytes) ends.2,
+  (0, omega arith, record { closed = refl; first = λ place less. absurd (omega arith) }),
 )
 
 triple_ends : (bytes : List ℕ) → Ends bytes
@@ -107,16 +104,16 @@ triple_longest of bytes at h = by (triple_len 0 (drop (at + 3) bytes)) (triple_e
             apart = omega arith;
             closed = closed;
             first = λ place more less.
-            let same : at + 3 + (place - (at + 3)) ≡ place = omega arith in
-            subst (λ place. begins_triple (drop place bytes) ≡ false) same
-            (rw (drop-drop (place - (at + 3)) (at + 3) bytes) at (ends.2.first (place - (at + 3)) (omega arith)));
+                let same : at + 3 + (place - (at + 3)) ≡ place = omega arith in
+                subst (λ place. begins_triple (drop place bytes) ≡ false) same
+                (rw (drop-drop (place - (at + 3)) (at + 3) bytes) at (ends.2.first (place - (at + 3)) (omega arith)));
           },
           λ m spelled.
-          let it = spelled.is in
-          ⊎_elim
-          (λ less. absurd (both_ways (begins_triple (drop close bytes)) (spelled.first close (omega arith) less) closed))
-          (λ least. omega arith)
-          (cases_lt close spelled.close),
+              let it = spelled.is in
+              ⊎_elim
+              (λ less. absurd (both_ways (begins_triple (drop close bytes)) (spelled.first close (omega arith) less) closed))
+              (λ least. omega arith)
+              (cases_lt close spelled.close),
         )
 
 -- Escapes --------------------------------------------------------------------------------------------------------------
@@ -231,16 +228,20 @@ quoted_longest bytes h =
   where
     content : List ℕ
     content = drop 1 bytes
+
     len : ℕ
     len = text_len false content
+
     fits : len ≤ length content
     fits = text_len_within false content
+
     escape_at : escapes_if false (take len content) None → (place : ℕ) → place < len → slice_index content place ≡ 92 → is_escaped_at content place ≡ false
         → escape_len (drop place (take len content)) ≢ 0
     escape_at each place less is free = each place
         (let size = length-take-le len content fits in omega arith)
         (get_or-take len content place 0 less ∙ is)
         (same_escaped (take len content) place ∙ (escaped_before content len place (omega arith) ∙ free))
+
     by : slice_index content len ≡ 34 → (found : Option ℕ) → escapes_if false (take len content) found → Longest (IsQuoted bytes) (quoted_by len found)
     by mark (Some at) each = tt
     by mark None each =
@@ -256,11 +257,11 @@ quoted_longest bytes h =
             escapes = escape_at each;
           },
           λ m spelled.
-          let it = spelled.is in
-          ⊎_elim
-          (λ less. absurd (both_ways (is_escaped_at content len) free (spelled.marks len less mark)))
-          (λ least. omega arith)
-          (cases_lt len spelled.len),
+              let it = spelled.is in
+              ⊎_elim
+              (λ less. absurd (both_ways (is_escaped_at content len) free (spelled.marks len less mark)))
+              (λ least. omega arith)
+              (cases_lt len spelled.len),
         )
 
 -- Texts that are taken as they are -------------------------------------------------------------------------------------
@@ -280,14 +281,14 @@ raw_longest bytes at h =
         is = refl;
         closed = mark;
         content = λ place less.
-        let passes = and_parts (not (slice_index content place == 34)) (not (slice_index content place == 10)) (prefix_len_passes test content place 0 less) in
-        (eqb-false (slice_index content place) 34 (not-true (slice_index content place == 34) passes.0), eqb-false (slice_index content place) 10 (not-true (slice_index content place == 10) passes.1));
+            let passes = and_parts (not (slice_index content place == 34)) (not (slice_index content place == 10)) (prefix_len_passes test content place 0 less) in
+            (eqb-false (slice_index content place) 34 (not-true (slice_index content place == 34) passes.0), eqb-false (slice_index content place) 10 (not-true (slice_index content place == 10) passes.1));
       },
       λ m spelled.
-      let it = spelled.is in
-      ⊎_elim
-      (λ less. absurd ((spelled.content len less).0 mark))
-      (λ least. omega arith)
-      (cases_lt len spelled.len),
+          let it = spelled.is in
+          ⊎_elim
+          (λ less. absurd ((spelled.content len less).0 mark))
+          (λ least. omega arith)
+          (cases_lt len spelled.len),
     ))
     (λ e. tt)
