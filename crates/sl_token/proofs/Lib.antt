@@ -2,8 +2,10 @@
 pub mod Going
 -- how many bytes a character has
 pub mod Sizes
--- a piece lies within the bytes
+-- what stands at a place lies within the bytes
 pub mod Within
+-- what stands at a place is the longest that is spelled there
+pub mod Longest
 -- what one token more does to the layout
 pub mod Layouts
 -- how a cut goes on, and that one text has no two of them

@@ -156,12 +156,12 @@ pub starts_continues : (bytes : List ℕ) → start_len bytes ≢ 0 → continue
 unfolding start_len continue_len
 starts_continues bytes h = starts_by (decoded bytes).char (decoded bytes).size h
 
-some_character : (bytes : List ℕ) → start_len bytes ≢ 0 → 0 < length bytes
+pub some_character : (bytes : List ℕ) → start_len bytes ≢ 0 → 0 < length bytes
 unfolding start_len
 some_character [] h = absurd (h refl)
 some_character (byte ∷ bytes) h = omega arith
 
-name_some : (bytes : List ℕ) → start_len bytes ≢ 0 → 0 < name_len 0 bytes
+pub name_some : (bytes : List ℕ) → start_len bytes ≢ 0 → 0 < name_len 0 bytes
 unfolding name_len
 name_some [] h = absurd (let none = some_character [] h in omega arith)
 name_some (byte ∷ bytes) h =
@@ -192,7 +192,7 @@ block_within bytes h = by (comment_len 1 0 (drop 2 bytes)) (comment_len_within 1
         let rest = length-drop 2 bytes in
         (omega arith, omega arith)
 
-operator_some : (bytes : List ℕ) → begins_comment bytes ≡ false → is_operator (slice_index bytes 0) ≡ true → 0 < operator_len bytes
+pub operator_some : (bytes : List ℕ) → begins_comment bytes ≡ false → is_operator (slice_index bytes 0) ≡ true → 0 < operator_len bytes
 unfolding is_operator goes_on operator_len
 operator_some [] a b = absurd (both_ways false refl b)
 operator_some (byte ∷ bytes) a b = rw (b, a) (omega arith)
@@ -217,7 +217,7 @@ number_within bytes h =
     (λ e. (prefix_some is_digit bytes (passing is_digit bytes refl h) h, prefix_len-le-length is_digit bytes))
 
 -- three marks are there
-triple_marks : (bytes : List ℕ) → begins_triple bytes ≡ true → 3 ≤ length bytes
+pub triple_marks : (bytes : List ℕ) → begins_triple bytes ≡ true → 3 ≤ length bytes
 unfolding begins_triple
 triple_marks bytes h =
     let mark : slice_index bytes 2 ≡ 34 = eqb-true (slice_index bytes 2) 34 (and_parts (slice_index bytes 0 == 34 && slice_index bytes 1 == 34) (slice_index bytes 2 == 34) h).1 in
