@@ -8,9 +8,12 @@ use Rattle.sl_token.specs.Cut.{Stands, len_of, IsSpelled, IsCut, token_of, token
 
 -- one piece more
 pub cut_more : (text : List ℕ) (from : ℕ) (pieces : List Piece) (to : ℕ) (next : Piece) → IsCut text from pieces to → Stands text to next
-    → IsSpelled next → IsCut text from (pieces ++ next ∷ []) (to + len_of next)
-cut_more text from [] to next cut stands spelled =
-    (subst (λ place. Stands text place next) (sym cut) stands, spelled, ap (λ place. place + len_of next) cut)
+    → IsSpelled (drop to text) next → IsCut text from (pieces ++ next ∷ []) (to + len_of next)
+cut_more text from [] to next cut stands spelled = (
+  subst (λ place. Stands text place next) (sym cut) stands,
+  subst (λ place. IsSpelled (drop place text) next) (sym cut) spelled,
+  ap (λ place. place + len_of next) cut,
+)
 cut_more text from (first ∷ pieces) to next cut stands spelled =
     (cut.0, cut.1, cut_more text (from + len_of first) pieces to next cut.2 stands spelled)
 
@@ -26,14 +29,14 @@ abbrev pub IsStuck : List ℕ → ℕ → Type 0
 IsStuck text place = (length text ≤ place) ⊎ ((number : ℕ) × (at : ℕ) × Stands text place (piece.Fault number at))
 
 -- what is spelled isn't a fault
-spelled_is_no_fault : (first : Piece) (number at : ℕ) → first ≡ piece.Fault number at → IsSpelled first → ⊥
-spelled_is_no_fault first number at is spelled = subst IsSpelled is spelled
+spelled_is_no_fault : (bytes : List ℕ) (first : Piece) (number at : ℕ) → first ≡ piece.Fault number at → IsSpelled bytes first → ⊥
+spelled_is_no_fault bytes first number at is spelled = subst (IsSpelled bytes) is spelled
 
-stuck_ends : (text : List ℕ) (place : ℕ) (first : Piece) → IsStuck text place → Stands text place first → IsSpelled first → ⊥
+stuck_ends : (text : List ℕ) (place : ℕ) (first : Piece) → IsStuck text place → Stands text place first → IsSpelled (drop place text) first → ⊥
 stuck_ends text place first stuck stands spelled =
     ⊎_elim
     (λ past. let within = stands.0 in absurd (omega arith))
-    (λ fault. spelled_is_no_fault first fault.0 fault.1 (sym stands.1 ∙ fault.2.1) spelled)
+    (λ fault. spelled_is_no_fault (drop place text) first fault.0 fault.1 (sym stands.1 ∙ fault.2.1) spelled)
     stuck
 
 -- two cuts that don't go on end at one place

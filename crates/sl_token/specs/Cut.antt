@@ -9,9 +9,10 @@ use Rattle.sl_text.specs.declared.token.Token.{Token}
 use Rattle.sl_token.specs.declared.piece.Piece.{Piece}
 use Rattle.sl_token.specs.declared.piece.Piece.TheVariants as piece
 use Rattle.sl_token.specs.Spellings.{piece_of}
+use Rattle.sl_token.specs.Longest.{IsLongest}
 use Rattle.sl_token.specs.Layout.{laid}
 
--- at this place of a text stands this piece
+-- at this place of a text stands this piece: a blank, a token or a fault
 abbrev pub Stands : List ℕ → ℕ → Piece → Type 0
 Stands text place stands = (place < length text) × (piece_of (drop place text) ≡ stands)
 
@@ -21,16 +22,17 @@ len_of (piece.Blank len) = len
 len_of (piece.Token kind len) = len
 len_of (piece.Fault number at) = 0
 
--- a piece is a blank or a token
-abbrev pub IsSpelled : Piece → Type 0
-IsSpelled (piece.Blank len) = Unit {0}
-IsSpelled (piece.Token kind len) = Unit {0}
-IsSpelled (piece.Fault number at) = ⊥
+-- a piece is a blank or a token, and the longest that is spelled where these bytes begin
+abbrev pub IsSpelled : List ℕ → Piece → Type 0
+IsSpelled bytes (piece.Blank len) = IsLongest bytes len
+IsSpelled bytes (piece.Token kind len) = IsLongest bytes len
+IsSpelled bytes (piece.Fault number at) = ⊥
 
--- from one place to another a text is cut into these blanks and tokens
+-- from one place to another a text is cut into these blanks and tokens, each the longest at its place
 abbrev pub IsCut : List ℕ → ℕ → List Piece → ℕ → Type 0
 IsCut text from [] to = from ≡ to
-IsCut text from (first ∷ pieces) to = Stands text from first × IsSpelled first × IsCut text (from + len_of first) pieces to
+IsCut text from (first ∷ pieces) to =
+    Stands text from first × IsSpelled (drop from text) first × IsCut text (from + len_of first) pieces to
 
 -- the token, if any, that a piece is at a place of a file
 abbrev pub token_of : ℕ → ℕ → Piece → List Token

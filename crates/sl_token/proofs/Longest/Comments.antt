@@ -1,9 +1,9 @@
 -- Comments of the form `/* */`, with others inside them.
-use Rattle.std.proofs.Common.{◌≡◌, ℕ, zero, suc, ◌+◌, ◌-◌, ◌<◌, List, [], ◌∷◌, drop, true, false, cond, ◌&&◌, ◌==◌, Option, Some, None, refl, sym, ap, subst, ◌∙◌, arith}
-use Rattle.std.proofs.lemmas.Bool.{cond_both, both_ways, and_parts, eqb-true, ne_eqb, cond-false}
+use Rattle.std.proofs.Common.{◌≡◌, ◌≢◌, ℕ, Bool, false, ◌||◌, ⊎_elim, zero, suc, ◌+◌, ◌-◌, ◌<◌, List, [], ◌∷◌, drop, true, cond, ◌&&◌, ◌==◌, Option, Some, None, refl, sym, ap, subst, ◌∙◌, arith}
+use Rattle.std.proofs.lemmas.Bool.{cond_both, both_ways, and_parts, eqb-true, ne_eqb, eq-eqb, cases_eq, cond-false}
 use Rattle.std.proofs.lemmas.Option.{same_Some}
 use Rattle.sl_token.specs.declared.opening.Opening.TheVariants as opens
-use Rattle.sl_token.specs.Spellings.{begins_block_comment, more, comment_len, comment_by, comment_piece}
+use Rattle.sl_token.specs.Spellings.{begins_block_comment, more, depth_behind, before_behind, comment_len, comment_by, comment_piece}
 use Rattle.sl_token.specs.Longest.{Body, Empty, Byte, Comment, spelled, body_len, ends_block_comment, IsBody, IsBlockComment}
 use Rattle.sl_token.proofs.Within.{Begun}
 use Rattle.sl_token.proofs.Longest.Runs.{Longest}
@@ -19,21 +19,50 @@ no_more : (len : Option ℕ) → more 0 len ≡ len
 no_more None = refl
 no_more (Some len) = let same : 0 + len ≡ len = omega arith in ap (λ len. Some len) same
 
+-- the last open comment
+last_one : (depth : ℕ) → 0 < depth → (depth - 1 == 0) ≡ (depth == 1)
+last_one depth some =
+    ⊎_elim
+    (λ (is : depth ≡ 1). eq-eqb (depth - 1) 0 (omega arith) ∙ sym (eq-eqb depth 1 is))
+    (λ (isnt : depth ≢ 1). ne_eqb (depth - 1) 0 (λ e. isnt (omega arith)) ∙ sym (ne_eqb depth 1 isnt))
+    (cases_eq depth 1)
+
+-- one byte further, by what it makes with the byte before
+step_by : (opens closes : Bool) (depth byte : ℕ) (bytes : List ℕ) → 0 < depth
+    → cond (cond opens (depth + 1) (cond closes (depth - 1) depth) == 0) (Some 1)
+    (more 1 (comment_len (cond opens (depth + 1) (cond closes (depth - 1) depth)) (cond (opens || closes) 0 byte) bytes))
+    ≡ cond opens (more 1 (comment_len (depth + 1) 0 bytes))
+    (cond closes (cond (depth == 1) (Some 1) (more 1 (comment_len (depth - 1) 0 bytes))) (more 1 (comment_len depth byte bytes)))
+step_by true closes depth byte bytes some = cond-false _ _ _ (ne_eqb (depth + 1) 0 (λ e. omega arith))
+step_by false true depth byte bytes some =
+    ap (λ test. cond test (Some 1) (more 1 (comment_len (depth - 1) 0 bytes))) (last_one depth some)
+step_by false false depth byte bytes some = cond-false _ _ _ (ne_eqb depth 0 (λ e. omega arith))
+
+comment_step : (depth before byte : ℕ) (bytes : List ℕ) → 0 < depth
+    → comment_len depth before (byte ∷ bytes)
+    ≡ cond (before == 47 && byte == 42) (more 1 (comment_len (depth + 1) 0 bytes))
+    (cond (before == 42 && byte == 47) (cond (depth == 1) (Some 1) (more 1 (comment_len (depth - 1) 0 bytes))) (more 1 (comment_len depth byte bytes)))
+unfolding comment_len depth_behind before_behind
+comment_step depth before byte bytes some = step_by (before == 47 && byte == 42) (before == 42 && byte == 47) depth byte bytes some
+
 -- behind a byte that makes no mark with the next one it is as behind none
-harmless : (depth byte : ℕ) (bytes : List ℕ) → begins_block_comment (byte ∷ bytes) ≡ false → ends_block_comment (byte ∷ bytes) ≡ false → comment_len depth byte bytes ≡ comment_len depth 0 bytes
+harmless : (depth byte : ℕ) (bytes : List ℕ) → 0 < depth → begins_block_comment (byte ∷ bytes) ≡ false → ends_block_comment (byte ∷ bytes) ≡ false → comment_len depth byte bytes ≡ comment_len depth 0 bytes
 unfolding comment_len begins_block_comment
-harmless depth byte [] a b = refl
-harmless depth byte (next ∷ bytes) a b =
+harmless depth byte [] some a b = refl
+harmless depth byte (next ∷ bytes) some a b =
     let on = more 1 (comment_len depth next bytes) in
     let closed : Option ℕ = cond (depth == 1) (Some 1) (more 1 (comment_len (depth - 1) 0 bytes)) in
-    cond-false (byte == 47 && next == 42) (more 1 (comment_len (depth + 1) 0 bytes)) (cond (byte == 42 && next == 47) closed on) a
+    comment_step depth byte next bytes some
+    ∙ cond-false (byte == 47 && next == 42) (more 1 (comment_len (depth + 1) 0 bytes)) (cond (byte == 42 && next == 47) closed on) a
     ∙ cond-false (byte == 42 && next == 47) closed on b
+    ∙ sym (comment_step depth 0 next bytes some)
 
 passed : (body : Body) (depth : ℕ) (behind : List ℕ) → 0 < depth → IsBody body behind → comment_len depth 0 (spelled body behind) ≡ more (body_len body) (comment_len depth 0 behind)
 unfolding comment_len
 passed Empty depth behind some is = sym (no_more (comment_len depth 0 behind))
 passed (Byte byte rest) depth behind some is =
-    ap (more 1) (harmless depth byte (spelled rest behind) is.0 is.1 ∙ passed rest depth behind some is.2)
+    comment_step depth 0 byte (spelled rest behind) some
+    ∙ ap (more 1) (harmless depth byte (spelled rest behind) some is.0 is.1 ∙ passed rest depth behind some is.2)
     ∙ more_more 1 (body_len rest) (comment_len depth 0 behind)
 passed (Comment inner rest) depth behind some is =
     let one = passed inner (depth + 1) (42 ∷ 47 ∷ spelled rest behind) (omega arith) is.0 in
@@ -42,10 +71,15 @@ passed (Comment inner rest) depth behind some is =
     let not_last : depth + 1 == 1 ≡ false = ne_eqb (depth + 1) 1 (λ e. omega arith) in
     let same : depth + 1 - 1 ≡ depth = omega arith in
     let close : comment_len (depth + 1) 0 (42 ∷ 47 ∷ spelled rest behind) ≡ more 1 (more 1 (more (body_len rest) last)) =
-    ap (more 1) (cond-false (depth + 1 == 1) (Some 1) (more 1 (comment_len (depth + 1 - 1) 0 (spelled rest behind))) not_last
+    comment_step (depth + 1) 0 42 (47 ∷ spelled rest behind) (omega arith)
+    ∙ ap (more 1) (comment_step (depth + 1) 42 47 (spelled rest behind) (omega arith)
+    ∙ cond-false (depth + 1 == 1) (Some 1) (more 1 (comment_len (depth + 1 - 1) 0 (spelled rest behind))) not_last
     ∙ ap (more 1) (ap (λ depth. comment_len depth 0 (spelled rest behind)) same ∙ two)) in
     let count : 1 + (1 + (body_len inner + (1 + (1 + body_len rest)))) ≡ 4 + body_len inner + body_len rest = omega arith in
-    ap (λ len. more 1 (more 1 len)) (one ∙ ap (more (body_len inner)) close)
+    let inside = spelled inner (42 ∷ 47 ∷ spelled rest behind) in
+    comment_step depth 0 47 (42 ∷ inside) some
+    ∙ ap (more 1) (comment_step depth 47 42 inside some)
+    ∙ ap (λ len. more 1 (more 1 len)) (one ∙ ap (more (body_len inner)) close)
     ∙ (ap (λ len. more 1 (more 1 (more (body_len inner) (more 1 len)))) (more_more 1 (body_len rest) last)
     ∙ (ap (λ len. more 1 (more 1 (more (body_len inner) len))) (more_more 1 (1 + body_len rest) last)
     ∙ (ap (λ len. more 1 (more 1 len)) (more_more (body_len inner) (1 + (1 + body_len rest)) last)
@@ -130,12 +164,15 @@ unfolding comment_len begins_block_comment
 scan [] = (λ depth. tt, λ depth before. tt)
 scan (byte ∷ bytes) =
     let rest = scan bytes in (
-      λ depth. counted (suc depth) (byte ∷ bytes) (comment_len (suc depth) byte bytes) (rest.1 depth byte),
+      λ depth.
+          subst (ClosesIf (suc depth) (byte ∷ bytes) 0) (sym (comment_step (suc depth) 0 byte bytes (omega arith)))
+          (counted (suc depth) (byte ∷ bytes) (comment_len (suc depth) byte bytes) (rest.1 depth byte)),
       λ depth before.
           let P = ClosesIf (suc depth) (before ∷ byte ∷ bytes) 1 in
           let ended : Option ℕ = cond (suc depth == 1) (Some 1) (more 1 (comment_len (suc depth - 1) 0 bytes)) in
           let on = more 1 (comment_len (suc depth) byte bytes) in
-          cond_both (before == 47 && byte == 42) (more 1 (comment_len (suc depth + 1) 0 bytes)) (cond (before == 42 && byte == 47) ended on) P
+          subst P (sym (comment_step (suc depth) before byte bytes (omega arith)))
+          (cond_both (before == 47 && byte == 42) (more 1 (comment_len (suc depth + 1) 0 bytes)) (cond (before == 42 && byte == 47) ended on) P
           (λ e.
           let both = and_parts (before == 47) (byte == 42) e in
           let same : suc (suc depth) ≡ suc depth + 1 = omega arith in
@@ -149,7 +186,7 @@ scan (byte ∷ bytes) =
           let both = and_parts (before == 42) (byte == 47) e in
           subst (λ before. ClosesIf (suc depth) (before ∷ byte ∷ bytes) 1 ended) (sym (eqb-true before 42 both.0))
           (subst (λ byte. ClosesIf (suc depth) (42 ∷ byte ∷ bytes) 1 ended) (sym (eqb-true byte 47 both.1)) (at_end depth bytes rest.0)))
-          (λ b. stepped depth before (byte ∷ bytes) (comment_len (suc depth) byte bytes) a b (rest.1 depth byte))),
+          (λ b. stepped depth before (byte ∷ bytes) (comment_len (suc depth) byte bytes) a b (rest.1 depth byte)))),
     )
 
 -- the first two bytes
@@ -163,7 +200,7 @@ front (a ∷ b ∷ bytes) h =
 
 -- a comment alone
 last_end : (behind : List ℕ) → comment_len 1 0 (42 ∷ 47 ∷ behind) ≡ Some 2
-unfolding comment_len
+unfolding comment_len depth_behind before_behind
 last_end behind = refl
 
 pub block_longest : (bytes : List ℕ) → Begun opens.BlockComment bytes → Longest (IsBlockComment bytes) (comment_piece bytes)

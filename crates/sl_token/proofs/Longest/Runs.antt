@@ -9,7 +9,7 @@ use Rattle.sl_token.specs.declared.opening.Opening.TheVariants as opens
 use Rattle.sl_token.specs.declared.piece.Piece.{Piece}
 use Rattle.sl_token.specs.declared.piece.Piece.TheVariants.{Blank, Token, Fault}
 use Rattle.sl_token.specs.Characters.{continue_len}
-use Rattle.sl_token.specs.Spellings.{is_space, is_digit, is_operator, begins_line_comment, begins_comment, line_len, operator_len, is_sign, operator_piece, number_piece}
+use Rattle.sl_token.specs.Spellings.{is_space, is_digit, is_operator, begins_line_comment, begins_comment, line_len, operator_len, goes_on, is_sign, operator_piece, number_piece}
 use Rattle.sl_token.specs.Longest.{FirstBytes, IsSpace, IsLineComment, IsOperator, IsNumber, Spells}
 use Rattle.sl_token.proofs.Within.{Begun, passing, within, prefix_some, operator_some, operator_len_within}
 
@@ -71,7 +71,7 @@ mark_longest bytes h = ((h, refl), λ m spelled. let is = spelled.1 in omega ari
 
 -- what `operator_len` says of each place
 operator_bytes : (bytes : List ℕ) (place : ℕ) → place < operator_len bytes → (is_operator (slice_index bytes place) ≡ true) × (begins_comment (drop place bytes) ≡ false)
-unfolding operator_len
+unfolding operator_len goes_on
 operator_bytes [] place less = absurd (omega arith)
 operator_bytes (byte ∷ bytes) place less =
     let test = is_operator byte && not (begins_comment (byte ∷ bytes)) in
@@ -90,7 +90,7 @@ operator_bytes (byte ∷ bytes) place less =
 -- no longer run has them
 operator_most : (bytes : List ℕ) (m : ℕ) → m ≤ length bytes
     → ((place : ℕ) → place < m → (is_operator (slice_index bytes place) ≡ true) × (begins_comment (drop place bytes) ≡ false)) → m ≤ operator_len bytes
-unfolding operator_len
+unfolding operator_len goes_on
 operator_most [] m fits each = fits
 operator_most (byte ∷ bytes) zero fits each = omega arith
 operator_most (byte ∷ bytes) (suc m) fits each =

@@ -6,7 +6,7 @@ use Rattle.sl_text.specs.declared.token.Kind.{Kind}
 use Rattle.sl_text.specs.declared.token.Kind.TheVariants as kind
 use Rattle.sl_token.specs.declared.opening.Opening.TheVariants as opens
 use Rattle.sl_token.specs.declared.piece.Piece.TheVariants.{Token, Fault}
-use Rattle.sl_token.specs.Spellings.{begins_triple, more, raw_len, text_len, triple_len, escape_len, bad_escape, triple_by, triple_piece, quoted_by, quoted_piece, raw_piece}
+use Rattle.sl_token.specs.Spellings.{begins_triple, more, raw_len, text_len, triple_len, escape_len, bad_escape, triple_by, triple_piece, quoted_by, quoted_piece, raw_piece, marks_behind, ends_text, escapes, is_bad}
 use Rattle.sl_token.specs.Longest.{IsTriple, IsQuoted, IsRaw, is_escaped_at}
 use Rattle.sl_token.proofs.Within.{Begun, text_len_within}
 use Rattle.sl_token.proofs.Longest.Runs.{Longest}
@@ -70,7 +70,7 @@ plain byte bytes h (Some len) ends =
 
 -- a mark
 marked : (bytes : List ℕ) → Ends bytes → Ends (34 ∷ bytes)
-unfolding triple_len begins_triple
+unfolding triple_len begins_triple marks_behind
 marked bytes ends = (
   shifted (34 ∷ bytes) 1 0 (omega arith) (triple_len 1 bytes) ends.1,
   shifted (34 ∷ 34 ∷ bytes) 2 1 (omega arith) (triple_len 2 bytes) ends.2,
@@ -78,7 +78,7 @@ marked bytes ends = (
 )
 
 triple_ends : (bytes : List ℕ) → Ends bytes
-unfolding triple_len
+unfolding triple_len marks_behind
 triple_ends [] = (tt, tt, tt)
 triple_ends (byte ∷ bytes) =
     let rest = triple_ends bytes in
@@ -147,7 +147,7 @@ record IsContent (escaped : Bool) (bytes : List ℕ) (place : ℕ) : Type 0 wher
   pub mark : slice_index bytes place ≡ 34 → escaped_from escaped bytes place ≡ true
 
 text_content : (escaped : Bool) (bytes : List ℕ) (place : ℕ) → place < text_len escaped bytes → IsContent escaped bytes place
-unfolding text_len
+unfolding text_len ends_text escapes
 text_content escaped [] place less = absurd (omega arith)
 text_content escaped (byte ∷ bytes) place less =
     let on = byte == 92 && not escaped in
@@ -171,7 +171,7 @@ text_content escaped (byte ∷ bytes) place less =
 
 -- the mark behind it isn't escaped
 text_end : (escaped : Bool) (bytes : List ℕ) → slice_index bytes (text_len escaped bytes) ≡ 34 → escaped_from escaped bytes (text_len escaped bytes) ≡ false
-unfolding text_len
+unfolding text_len ends_text escapes
 text_end escaped [] = λ is. absurd (omega arith)
 text_end escaped (byte ∷ bytes) =
     let on = byte == 92 && not escaped in
@@ -211,7 +211,7 @@ escapes_on escaped byte bytes None e later = at
     at (suc place) less is free = later place (omega arith) is (sym (escaped_on escaped byte bytes place) ∙ free)
 
 no_bad_escape : (escaped : Bool) (bytes : List ℕ) → escapes_if escaped bytes (bad_escape escaped bytes)
-unfolding bad_escape escapes_if AreEscapes
+unfolding bad_escape is_bad escapes escapes_if AreEscapes
 no_bad_escape escaped [] = λ place less is free. absurd (omega arith)
 no_bad_escape escaped (byte ∷ bytes) =
     let on = byte == 92 && not escaped in

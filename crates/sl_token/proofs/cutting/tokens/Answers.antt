@@ -8,6 +8,7 @@ use Rattle.sl_token.specs.Spellings.{piece_of}
 use Rattle.sl_token.specs.Cut.{Stands, IsCut, tokens_of, header, TellsFirst, AreTokens, IsFirstBroken, broken_at}
 use Rattle.sl_token.specs.Layouts.{IsLayoutOf}
 use Rattle.sl_token.proofs.Within.{blank_within, token_within, fault_within}
+use Rattle.sl_token.proofs.Longest.{blank_longest, token_longest}
 use Rattle.sl_token.proofs.Cuts.{cut_more, tokens_more}
 use Rattle.sl_token.proofs.Broken.{HasHeader, whole_is_valid, one_valid, no_header_first, too_long_first, cut_keeps, utf8_first_of_cut, utf8_first_of_fault, fault_first}
 use Rattle.sl_token.proofs.cutting.tokens.Goals as goal
@@ -75,7 +76,7 @@ loop-at-preserved-in-Blank c =
       omega arith,
       (
         pieces ++ next ∷ [],
-        cut_more bytes 0 pieces at next cut stands tt,
+        cut_more bytes 0 pieces at next cut stands (blank_longest (drop at bytes) len is),
         subst (λ tokens. IsLayoutOf bytes tokens c.loop-at.layout) (sym (tokens_more bytes c.args.file 0 pieces at next cut ∙ append-nil _)) layout,
       ),
     )
@@ -150,7 +151,7 @@ loop-at-preserved c =
       omega arith,
       (
         pieces ++ next ∷ [],
-        cut_more bytes 0 pieces at next cut stands tt,
+        cut_more bytes 0 pieces at next cut stands (token_longest (drop at bytes) c.in-Token.kind len is),
         subst (λ tokens. IsLayoutOf bytes tokens c.push.new.self) (sym (tokens_more bytes c.args.file 0 pieces at next cut))
             (c.in_ok-push-in-Token.ensures bytes (tokens_of c.args.file 0 pieces) layout),
       ),
