@@ -1,0 +1,21 @@
+-- one phrase behind another, and one of two
+pub mod Both
+pub mod Either
+pub mod Then
+-- the laws of the pieces that forms are made of
+pub mod Laws
+pub mod Pieces
+pub mod Many
+pub mod Guarded
+pub mod Steps
+-- a form that passes its test is read (`form_law`)
+pub mod Grammar
+-- two readers that obey the law find the same
+pub mod Unique
+-- a grammar that passes its test is read (`grammar_reads`), spells each tree once (`grammar_one`), and is read by any function that
+-- meets the equations of its rules (`grammar_is`, `grammar_same`)
+pub mod Rules
+-- what a refused token is: too deep, or wrong (`refusal`)
+pub mod Front
+-- the example is read
+pub mod Sums
