@@ -14,3 +14,5 @@ pub mod Cuts
 pub mod Faults
 -- which broken rule is the first
 pub mod Broken
+-- a name is compared with the words of its length alone
+pub mod WordLengths

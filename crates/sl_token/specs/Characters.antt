@@ -1,5 +1,6 @@
 -- Characters, and which of them make identifiers.
 use Rattle.std.specs.Prelude.{ℕ, List, take, drop, length, Bool, true, ◌||◌, ◌==◌, Option, Some, None, if◌then◌else◌}
+use Rattle.std.specs.Char.{is_ascii_alphanumeric}
 use Rattle.bstr.specs.Utf8.{decoded}
 use Rattle.unicode_ident.specs.Ident.{is_xid_start, is_xid_continue}
 
@@ -25,3 +26,7 @@ start_len bytes = len_if begins_identifier (decoded bytes).char (decoded bytes).
 -- 0 where none does
 unfoldable pub continue_len : List ℕ → ℕ
 continue_len bytes = len_if is_xid_continue (decoded bytes).char (decoded bytes).size
+
+-- 1 where a byte is an ASCII letter, a digit or `_`, and else 0: what `continue_len` gives of an ASCII byte
+abbrev pub ascii_len : ℕ → ℕ
+ascii_len byte = if is_ascii_alphanumeric byte || byte == 95 then 1 else 0

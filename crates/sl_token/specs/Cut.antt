@@ -100,7 +100,7 @@ broken_at file number place =
       span = record { file = file; from = place; to = place };
     })
 
--- a fault is the first broken rule L, or want of memory
+-- a fault is the first broken rule L, or want of memory, which comes only where the text has the header and isn't too long
 abbrev pub TellsFirst : ℕ → List ℕ → Fault → Type 0
 TellsFirst file text (fault.Broken broken) = IsFirstFault file text broken
-TellsFirst file text fault.Mem = Unit {0}
+TellsFirst file text fault.Mem = ¬ BreaksHeader text 1 0 × ¬ BreaksLength text 7 0
