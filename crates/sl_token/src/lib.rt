@@ -12,3 +12,6 @@ mod runs;
 mod words;
 
 pub use cutting::tokens;
+
+#[cfg(test)]
+mod tests;
