@@ -2,7 +2,7 @@
 use Rattle.std.proofs.Common.{append-nil, ◌≡◌, ℕ, suc, ◌+◌, ◌≤◌, List, [], ◌∷◌, ◌++◌, length, refl, sym, ◌∙◌, subst, ◌⊎◌, inl, inr, Bool, true, false, if◌then◌else◌, arith}
 use Rattle.std.specs.Prelude.{eqb}
 use Rattle.std.proofs.lemmas.Bool.{eqb-true}
-use Rattle.sl_grammar.specs.Phrase.{Found, Stopped, spells_both, spells_either, read_both, read_either, spells_token, read_token}
+use Rattle.sl_grammar.specs.Phrase.{Found, Stopped, spells_both, spells_either, read_both, read_either}
 use Rattle.sl_grammar.specs.Law.{Word, Disjoint, Law, Shape, no_token, either_token}
 use Rattle.sl_grammar.specs.Many.{spells_many, read_list}
 use Rattle.sl_grammar.specs.Guard.{guard}

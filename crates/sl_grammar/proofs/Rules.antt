@@ -3,7 +3,7 @@ use Rattle.std.proofs.Common.{append-nil, ◌≡◌, ℕ, zero, suc, ◌<◌, �
 use Rattle.std.specs.Prelude.{ltb, max}
 use Rattle.std.proofs.lemmas.Bool.{ltb-true}
 use Rattle.std.proofs.Math.Nat.{le-max_left, le-max_right}
-use Rattle.sl_grammar.specs.Phrase.{Found, IsRead, spells_token, spells_both}
+use Rattle.sl_grammar.specs.Phrase.{Found, IsRead}
 use Rattle.sl_grammar.specs.Law.{Word, Law, Seen, Shape, found_as}
 use Rattle.sl_grammar.specs.Many.{spells_many}
 use Rattle.sl_grammar.specs.Grammar.{Form, Token, Nothing, Ref, Then, Either, Room, Many, has, disjoint, subset, and, not, sets_of, ok, is, Val, spells_form, read_form, Chain, chain_room, step_on}

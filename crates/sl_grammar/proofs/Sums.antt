@@ -3,7 +3,7 @@ use Rattle.std.proofs.Common.{◌≡◌, ℕ, suc, List, [], ◌∷◌, length, 
 use Rattle.std.specs.Prelude.{leb}
 use Rattle.sl_grammar.specs.Phrase.{Done, Stopped, IsRead, left_of}
 use Rattle.sl_grammar.specs.Rules.{good, Spells, Readers, none_own, read_at}
-use Rattle.sl_grammar.specs.Sums.{Tok, kind, sample, Expr, Number, Paren, Add, Name, Sum, Plus, Operand, At, at, T, names, valid_at, room, tree, below, up_to, all}
+use Rattle.sl_grammar.specs.Sums.{Tok, kind, sample, Number, Add, Name, Sum, Plus, Operand, At, at, T, names, valid_at, room, tree, below, up_to, all}
 use Rattle.sl_grammar.proofs.Rules.{grammar_reads, grammar_one}
 use Rattle.sl_grammar.proofs.Front.{Refused, refusal}
 

@@ -1,12 +1,12 @@
 -- Which broken rule is the first.
-use Rattle.std.proofs.Common.{◌≡◌, ◌≢◌, ◌⊎◌, ℕ, zero, suc, ◌+◌, ◌-◌, ◌<◌, ◌≤◌, List, [], ◌∷◌, length, take, drop, slice_index, Bool, true, false, Option, Some, None, IsUtf8, refl, sym, ap, subst, ◌∙◌, arith, inl, inr, ⊎_elim, take_all}
+use Rattle.std.proofs.Common.{◌≡◌, ◌⊎◌, ℕ, ◌+◌, ◌<◌, ◌≤◌, List, length, take, drop, IsUtf8, refl, sym, ap, subst, ◌∙◌, arith, inl, inr, ⊎_elim, take_all}
 use Rattle.std.specs.Str.{IsValidUpTo}
 use Rattle.std.proofs.lemmas.Bool.{cases_lt}
 use Rattle.sl_token.specs.declared.piece.Piece.{Piece}
 use Rattle.sl_token.specs.declared.piece.Piece.TheVariants as piece
 use Rattle.sl_token.specs.Spellings.{piece_of}
 use Rattle.sl_token.specs.Cut.{Stands, IsCut, header, most_bytes, BreaksHeader, BreaksUtf8, BreaksLength, BreaksPiece, Breaks, IsFirstBroken}
-use Rattle.sl_token.proofs.Cuts.{IsStuck, cuts_end_alike}
+use Rattle.sl_token.proofs.Cuts.{cuts_end_alike}
 use Rattle.sl_token.proofs.Faults.{fault_number, header_no_fault, header_is_valid}
 
 -- a text begins with the header

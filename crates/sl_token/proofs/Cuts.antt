@@ -1,9 +1,7 @@
 -- Cuts: how they go on, and that one text has no two of them.
-use Rattle.std.proofs.Common.{◌≡◌, ◌⊎◌, ℕ, ◌+◌, ◌<◌, ◌≤◌, List, [], ◌∷◌, ◌++◌, append_assoc, append-nil, length, drop, refl, sym, ap, subst, ◌∙◌, arith, inl, inr, ⊎_elim}
-use Rattle.sl_text.specs.declared.token.Token.{Token}
+use Rattle.std.proofs.Common.{◌≡◌, ◌⊎◌, ℕ, ◌+◌, ◌≤◌, List, [], ◌∷◌, ◌++◌, append_assoc, append-nil, length, drop, sym, ap, subst, ◌∙◌, arith, ⊎_elim}
 use Rattle.sl_token.specs.declared.piece.Piece.{Piece}
 use Rattle.sl_token.specs.declared.piece.Piece.TheVariants as piece
-use Rattle.sl_token.specs.Spellings.{piece_of}
 use Rattle.sl_token.specs.Cut.{Stands, len_of, IsSpelled, IsCut, token_of, tokens_of}
 
 -- one piece more

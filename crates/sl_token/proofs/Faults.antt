@@ -1,5 +1,5 @@
 -- Which faults there are, and that none stands at the start of a text with a header.
-use Rattle.std.proofs.Common.{◌≡◌, ◌≢◌, ℕ, zero, suc, ◌+◌, ◌<◌, ◌≤◌, List, [], ◌∷◌, ◌++◌, length, take, drop, slice_index, Bool, true, false, ◌&&◌, ◌||◌, ◌==◌, not, nat_lt, Option, Some, None, IsUtf8, refl, sym, ap, subst, ◌∙◌, arith}
+use Rattle.std.proofs.Common.{◌≡◌, ℕ, ◌+◌, ◌≤◌, List, [], ◌∷◌, ◌++◌, length, take, drop, slice_index, false, ◌&&◌, ◌||◌, ◌==◌, not, nat_lt, Option, Some, None, IsUtf8, refl, sym, ap, subst, ◌∙◌, arith}
 use Rattle.std.specs.List.{prefix_len}
 use Rattle.std.specs.Str.{IsValidUpTo}
 use Rattle.std.proofs.lemmas.Bool.{cond_both}
@@ -11,8 +11,8 @@ use Rattle.sl_token.specs.declared.opening.Opening.{Opening}
 use Rattle.sl_token.specs.declared.opening.Opening.TheVariants as opens
 use Rattle.sl_token.specs.declared.piece.Piece.{Piece}
 use Rattle.sl_token.specs.declared.piece.Piece.TheVariants.{Blank, Token, Fault}
-use Rattle.sl_token.specs.Characters.{char_len, start_len, continue_len}
-use Rattle.sl_token.specs.Spellings.{is_digit, is_space, begins_line_comment, begins_triple, opening_of, line_len, raw_len, operator_len, name_len, text_len, triple_len, comment_len, escape_len, bad_escape, is_sign, is_word, comment_by, comment_piece, operator_piece, number_piece, triple_by, triple_piece, quoted_by, quoted_piece, identifier_len, symbol_piece, letter_piece, raw_piece, name_piece, piece_by, piece_of}
+use Rattle.sl_token.specs.Characters.{char_len, continue_len}
+use Rattle.sl_token.specs.Spellings.{is_digit, is_space, begins_line_comment, begins_triple, opening_of, line_len, raw_len, operator_len, name_len, text_len, escape_len, bad_escape, is_sign, is_word, comment_by, comment_piece, operator_piece, number_piece, triple_by, triple_piece, quoted_by, quoted_piece, identifier_len, symbol_piece, letter_piece, raw_piece, name_piece, piece_by, piece_of}
 use Rattle.sl_token.specs.Cut.{header}
 
 -- a fault has the number of one of the rules L3 to L8

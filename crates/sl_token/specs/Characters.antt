@@ -1,5 +1,5 @@
 -- Characters, and which of them make identifiers.
-use Rattle.std.specs.Prelude.{ℕ, List, take, drop, length, Bool, true, ◌||◌, ◌==◌, Option, Some, None, if◌then◌else◌}
+use Rattle.std.specs.Prelude.{ℕ, List, Bool, true, ◌||◌, ◌==◌, Option, Some, None, if◌then◌else◌}
 use Rattle.std.specs.Char.{is_ascii_alphanumeric}
 use Rattle.bstr.specs.Utf8.{decoded}
 use Rattle.unicode_ident.specs.Ident.{is_xid_start, is_xid_continue}

@@ -1,11 +1,10 @@
-use Rattle.std.proofs.Common.{◌≡◌, ◌⊎◌, ◌+◌, ◌≤◌, ◌<◌, ℕ, List, [], ◌∷◌, ◌++◌, drop, take, length, length-drop, append-nil, Fits, w8, w32, w64, true≢false, IsUtf8, arith, ap, sym, subst, refl, ⊎_elim, ◌∙◌}
+use Rattle.std.proofs.Common.{◌≡◌, ◌+◌, ◌<◌, ℕ, List, [], ◌∷◌, ◌++◌, drop, take, length, length-drop, append-nil, true≢false, arith, ap, sym, subst, refl, ◌∙◌}
 use Rattle.std.specs.Str.{IsValidUpTo}
 use Rattle.std.proofs.lemmas.Slice.Eq.{bytes_eq-Decides}
-use Rattle.sl_text.specs.declared.token.Token.{Token}
 use Rattle.sl_token.specs.declared.piece.Piece.{Piece}
 use Rattle.sl_token.specs.declared.piece.Piece.TheVariants as piece
 use Rattle.sl_token.specs.Spellings.{piece_of}
-use Rattle.sl_token.specs.Cut.{Stands, IsCut, tokens_of, header, TellsFirst, AreTokens, IsFirstBroken, broken_at}
+use Rattle.sl_token.specs.Cut.{Stands, IsCut, tokens_of, header, TellsFirst, IsFirstBroken, broken_at}
 use Rattle.sl_token.specs.Layouts.{IsLayoutOf}
 use Rattle.sl_token.proofs.Within.{blank_within, token_within, fault_within}
 use Rattle.sl_token.proofs.Longest.{blank_longest, token_longest}

@@ -1,4 +1,4 @@
-use Rattle.std.proofs.Common.{◌≡◌, ◌≢◌, ◌+◌, ◌≤◌, ◌<◌, drop, length, slice_index, arith, ap, sym, ◌∙◌}
+use Rattle.std.proofs.Common.{◌≡◌, ◌≢◌, ◌+◌, drop, slice_index, arith, ap, sym, ◌∙◌}
 use Rattle.sl_token.specs.Spellings.{more, comment_len, depth_behind, before_behind}
 use Rattle.sl_token.proofs.Going.{more_more, comment_ends, comment_goes_on, comment_unended}
 use Rattle.sl_token.proofs.runs.comment_len.Goals as goal

@@ -1,7 +1,7 @@
-use Rattle.std.proofs.Common.{◌≡◌, ◌≢◌, ◌+◌, ◌-◌, ◌≤◌, ◌<◌, drop, length, arith, ap, sym, ◌∙◌, length-drop, drop-drop}
+use Rattle.std.proofs.Common.{◌≡◌, ◌+◌, drop, length, arith, ap, sym, ◌∙◌, length-drop, drop-drop}
 use Rattle.sl_token.specs.Characters.{continue_len}
 use Rattle.sl_token.specs.Spellings.{name_len}
-use Rattle.sl_token.proofs.Going.{name_stops, name_goes_on, name_ends, rest_of_name}
+use Rattle.sl_token.proofs.Going.{name_stops, name_ends, rest_of_name}
 use Rattle.sl_token.proofs.runs.name_len.Goals as goal
 
 pub returns-then-more-eq0-clause-run : goal.returns-then-more-eq0-clause-run

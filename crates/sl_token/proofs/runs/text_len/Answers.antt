@@ -1,5 +1,5 @@
-use Rattle.std.proofs.Common.{◌≡◌, ◌+◌, false, drop, slice_index, arith, sym, ap, ◌∙◌}
-use Rattle.sl_token.specs.Spellings.{text_len, escapes}
+use Rattle.std.proofs.Common.{◌≡◌, ◌+◌, false, drop, arith, sym, ap, ◌∙◌}
+use Rattle.sl_token.specs.Spellings.{text_len}
 use Rattle.sl_token.proofs.Going.{text_stops, text_goes_on, text_ends}
 use Rattle.sl_token.proofs.runs.text_len.Goals as goal
 

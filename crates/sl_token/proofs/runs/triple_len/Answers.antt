@@ -1,4 +1,4 @@
-use Rattle.std.proofs.Common.{◌≡◌, ◌≢◌, ◌+◌, ◌≤◌, ◌<◌, drop, length, slice_index, arith, ap, sym, ◌∙◌}
+use Rattle.std.proofs.Common.{◌≡◌, ◌≢◌, ◌+◌, drop, slice_index, arith, ap, sym, ◌∙◌}
 use Rattle.sl_token.specs.Spellings.{more, triple_len, marks_behind}
 use Rattle.sl_token.proofs.Going.{more_more, marks_end, marks_go_on, triple_ends}
 use Rattle.sl_token.proofs.runs.triple_len.Goals as goal
