@@ -1,11 +1,12 @@
 -- Which broken rule is the first.
-use Rattle.std.proofs.Common.{◌≡◌, ◌⊎◌, ℕ, ◌+◌, ◌<◌, ◌≤◌, List, length, take, drop, IsUtf8, refl, sym, ap, subst, ◌∙◌, arith, inl, inr, ⊎_elim, take_all}
+use Rattle.std.proofs.Common.{◌≡◌, ◌⊎◌, ℕ, ◌+◌, ◌<◌, ◌≤◌, List, length, take, drop, true, false, nat_le, Option, Some, None, IsUtf8, refl, sym, ap, subst, ◌∙◌, arith, inl, inr, ⊎_elim, take_all}
 use Rattle.std.specs.Str.{IsValidUpTo}
-use Rattle.std.proofs.lemmas.Bool.{cases_lt}
+use Rattle.std.proofs.lemmas.Bool.{cases_lt, cases_Bool, cond-true, cond-false}
+use Rattle.std.proofs.lemmas.Bool.Decides.{nat_tests}
 use Rattle.sl_token.specs.declared.piece.Piece.{Piece}
 use Rattle.sl_token.specs.declared.piece.Piece.TheVariants as piece
 use Rattle.sl_token.specs.Spellings.{piece_of}
-use Rattle.sl_token.specs.Cut.{Stands, IsCut, header, most_bytes, BreaksHeader, BreaksUtf8, BreaksLength, BreaksPiece, Breaks, IsFirstBroken}
+use Rattle.sl_token.specs.Cut.{Stands, IsCut, header, most_bytes, BreaksHeader, BreaksUtf8, BreaksLength, BreaksPiece, Breaks, IsFirstBroken, KeepsStart, IsStop, first_of}
 use Rattle.sl_token.proofs.Cuts.{cuts_end_alike}
 use Rattle.sl_token.proofs.Faults.{fault_number, header_no_fault, header_is_valid}
 
@@ -89,7 +90,8 @@ too_long_first text has long = record {
       (λ b. absurd (b.2 has))
       (λ b. ⊎_elim (λ some. inl some) (λ none. absurd (header_is_valid text at has b.1 (omega arith))) (cases_lt 0 at))
       (λ b. inr (let is = b.1 in omega arith, let is = b.0 in omega arith))
-      (λ b. ⊎_elim
+      (λ b.
+      ⊎_elim
       (λ some. inl (let is = b.5 in omega arith))
       (λ (none : b.1 ≤ 0).
       let start : b.1 ≡ 0 = omega arith in
@@ -98,34 +100,34 @@ too_long_first text has long = record {
       broken;
 }
 
--- a text that is cut to its end breaks no rule
-pub cut_keeps : (text : List ℕ) (pieces : List Piece) → HasHeader text → length text ≤ most_bytes → IsUtf8 text
-    → IsCut text 0 pieces (length text) → (number place : ℕ) → ¬ Breaks text number place
-cut_keeps text pieces has short utf8 cut number place broken =
-    cases_of text number place
-    (λ b. b.2 has)
-    (λ b. whole_is_valid text place utf8 b.1)
-    (λ b. let long = b.2 in absurd (omega arith))
-    (λ b.
-    let same = cuts_end_alike text 0 pieces b.0 (length text) b.1 cut (inl (omega arith)) b.3 (inr (number, b.2, b.4)) in
-    let within = b.4.0 in
-    absurd (omega arith))
-    broken
+-- behind a start that keeps L1 and L7 only two kinds of rules are broken
+kept_start : {P : Type 0} (text : List ℕ) (number place : ℕ) → KeepsStart text → (BreaksUtf8 text number place → P)
+    → (BreaksPiece text number place → P) → Breaks text number place → P
+kept_start text number place keeps utf8 piece broken =
+    cases_of text number place (λ b. absurd (b.2 keeps.begins)) utf8 (λ b. let short = keeps.short in let long = b.2 in absurd (omega arith)) piece broken
 
--- the rule L2 is the first where the text stops being UTF-8 at its end or before it, and is cut up to there without a fault
-pub utf8_first_of_cut : (text : List ℕ) (pieces : List Piece) (place : ℕ) → HasHeader text → length text ≤ most_bytes
-    → IsCut text 0 pieces (length text) → IsValidUpTo text place → IsFirstBroken text 2 place
-utf8_first_of_cut text pieces place has short cut valid = record {
+-- where the text is cut to its end no fault is reached
+no_fault : (text : List ℕ) (pieces : List Piece) (other at : ℕ) → IsCut text 0 pieces (length text) → BreaksPiece text other at → ⊥
+no_fault text pieces other at cut b =
+    let same = cuts_end_alike text 0 pieces b.0 (length text) b.1 cut (inl (omega arith)) b.3 (inr (other, b.2, b.4)) in
+    let within = b.4.0 in
+    absurd (omega arith)
+
+-- a text that is cut to its end breaks no rule
+pub cut_keeps : (text : List ℕ) (pieces : List Piece) → KeepsStart text → IsUtf8 text → IsCut text 0 pieces (length text)
+    → (number place : ℕ) → ¬ Breaks text number place
+cut_keeps text pieces keeps utf8 cut number place broken =
+    kept_start text number place keeps (λ b. whole_is_valid text place utf8 b.1) (λ b. no_fault text pieces number place cut b) broken
+
+-- the rule L2 is the first where the text stops being UTF-8, and is cut to its end
+pub utf8_first : (text : List ℕ) (pieces : List Piece) (place : ℕ) → KeepsStart text → IsCut text 0 pieces (length text)
+    → IsValidUpTo text place → IsFirstBroken text 2 place
+utf8_first text pieces place keeps cut valid = record {
   broken = by_utf8 text 2 place (refl, valid);
   first = λ other at broken.
-      cases_of {P = IsBehind 2 place other at} text other at
-      (λ b. absurd (b.2 has))
-      (λ b. let same = one_valid text place at valid b.1 in inr (same, let is = b.0 in omega arith))
-      (λ b. let long = b.2 in absurd (omega arith))
-      (λ b.
-      let same = cuts_end_alike text 0 pieces b.0 (length text) b.1 cut (inl (omega arith)) b.3 (inr (other, b.2, b.4)) in
-      let within = b.4.0 in
-      absurd (omega arith))
+      kept_start {P = IsBehind 2 place other at} text other at keeps
+      (λ b. inr (one_valid text place at valid b.1, let is = b.0 in omega arith))
+      (λ b. absurd (no_fault text pieces other at cut b))
       broken;
 }
 
@@ -141,37 +143,53 @@ one_fault text pieces from number further other at cut stands b =
     let place = b.5 in
     (omega arith, sym numbers)
 
--- the rule L2 is the first where the text stops being UTF-8 before the place of a fault or at it
-pub utf8_first_of_fault : (text : List ℕ) (pieces : List Piece) (from number further place : ℕ) → HasHeader text
-    → length text ≤ most_bytes → IsCut text 0 pieces from → Stands text from (piece.Fault number further) → IsValidUpTo text place
-    → place ≤ from + further → IsFirstBroken text 2 place
-utf8_first_of_fault text pieces from number further place has short cut stands valid before = record {
-  broken = by_utf8 text 2 place (refl, valid);
-  first = λ other at broken.
-      cases_of {P = IsBehind 2 place other at} text other at
-      (λ b. absurd (b.2 has))
-      (λ b. let same = one_valid text place at valid b.1 in inr (same, let is = b.0 in omega arith))
-      (λ b. let long = b.2 in absurd (omega arith))
-      (λ b.
-      let same = one_fault text pieces from number further other at cut stands b in
-      let least = fault_number (drop from text) number further stands.1 in
-      is_behind 2 place other at (let is = same.0 in omega arith) (let is = same.1 in omega arith))
-      broken;
-}
-
--- the fault is the first where the text doesn't stop being UTF-8 before its place or at it
-pub fault_first : (text : List ℕ) (pieces : List Piece) (from number further : ℕ) → HasHeader text → length text ≤ most_bytes
-    → IsCut text 0 pieces from → Stands text from (piece.Fault number further)
-    → ((place : ℕ) → IsValidUpTo text place → from + further < place) → IsFirstBroken text number (from + further)
-fault_first text pieces from number further has short cut stands valid = record {
+-- a fault, and where the text stops being UTF-8, if it does: the first of both is the first broken rule
+pub fault_first : (text : List ℕ) (pieces : List Piece) (from number further : ℕ) (stop : Option ℕ) → KeepsStart text
+    → IsCut text 0 pieces from → Stands text from (piece.Fault number further) → IsStop text stop
+    → IsFirstBroken text (first_of stop number (from + further)).0 (first_of stop number (from + further)).1
+fault_first text pieces from number further None keeps cut stands stops = record {
   broken = by_piece text number (from + further) (pieces, from, further, cut, stands, refl);
   first = λ other at broken.
-      cases_of {P = IsBehind number (from + further) other at} text other at
-      (λ b. absurd (b.2 has))
-      (λ b. inl (valid at b.1))
-      (λ b. let long = b.2 in absurd (omega arith))
-      (λ b.
-      let same = one_fault text pieces from number further other at cut stands b in
-      inr (sym same.0, let is = same.1 in omega arith))
+      kept_start {P = IsBehind number (from + further) other at} text other at keeps
+      (λ b. absurd (whole_is_valid text at stops b.1))
+      (λ b. let same = one_fault text pieces from number further other at cut stands b in inr (sym same.0, let is = same.1 in omega arith))
       broken;
 }
+fault_first text pieces from number further (Some stop) keeps cut stands stops =
+    ⊎_elim
+    (λ e. subst First (sym (cond-true (nat_le stop place) (2, stop) (number, place) e)) (earlier e))
+    (λ e. subst First (sym (cond-false (nat_le stop place) (2, stop) (number, place) e)) (later e))
+    (cases_Bool (nat_le stop place))
+  where
+    place : ℕ
+    place = from + further
+
+    First : ℕ × ℕ → Type 0
+    First rule = IsFirstBroken text rule.0 rule.1
+
+    earlier : nat_le stop (from + further) ≡ true → IsFirstBroken text 2 stop
+    earlier e = record {
+      broken = by_utf8 text 2 stop (refl, stops);
+      first = λ other at broken.
+          kept_start {P = IsBehind 2 stop other at} text other at keeps
+          (λ b. inr (one_valid text stop at stops b.1, let is = b.0 in omega arith))
+          (λ b.
+          let same = one_fault text pieces from number further other at cut stands b in
+          let least = fault_number (drop from text) number further stands.1 in
+          let before : stop ≤ from + further = grind (arith, nat_tests) in
+          is_behind 2 stop other at (let is = same.0 in omega arith) (let is = same.1 in omega arith))
+          broken;
+    }
+
+    later : nat_le stop (from + further) ≡ false → IsFirstBroken text number (from + further)
+    later e = record {
+      broken = by_piece text number (from + further) (pieces, from, further, cut, stands, refl);
+      first = λ other at broken.
+          kept_start {P = IsBehind number (from + further) other at} text other at keeps
+          (λ b.
+          let same = one_valid text stop at stops b.1 in
+          let behind : from + further < stop = grind (arith, nat_tests) in
+          inl (omega arith))
+          (λ b. let same = one_fault text pieces from number further other at cut stands b in inr (sym same.0, let is = same.1 in omega arith))
+          broken;
+    }

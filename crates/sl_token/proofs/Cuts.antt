@@ -1,5 +1,6 @@
 -- Cuts: how they go on, and that one text has no two of them.
 use Rattle.std.proofs.Common.{◌≡◌, ◌⊎◌, ℕ, ◌+◌, ◌≤◌, List, [], ◌∷◌, ◌++◌, append_assoc, append-nil, length, drop, sym, ap, subst, ◌∙◌, arith, ⊎_elim}
+use Rattle.sl_text.specs.declared.token.Token.{Token}
 use Rattle.sl_token.specs.declared.piece.Piece.{Piece}
 use Rattle.sl_token.specs.declared.piece.Piece.TheVariants as piece
 use Rattle.sl_token.specs.Cut.{Stands, len_of, IsSpelled, IsCut, token_of, tokens_of}
@@ -21,6 +22,19 @@ tokens_more text file from [] to next cut = append-nil _ ∙ ap (λ place. token
 tokens_more text file from (first ∷ pieces) to next cut =
     ap (λ tokens. token_of file from first ++ tokens) (tokens_more text file (from + len_of first) pieces to next cut.2)
     ∙ sym (append_assoc (token_of file from first) _ _)
+
+-- a cut comes to a place, and its tokens have a property
+abbrev pub Reached : List ℕ → ℕ → ℕ → (List Token → Type 0) → Type 0
+Reached text file to Holds = (pieces : List Piece) × IsCut text 0 pieces to × Holds (tokens_of file 0 pieces)
+
+pub reached_more : (text : List ℕ) (file to : ℕ) (Holds Next : List Token → Type 0) (next : Piece) → Stands text to next
+    → IsSpelled (drop to text) next → ((tokens : List Token) → Holds tokens → Next (tokens ++ token_of file to next))
+    → Reached text file to Holds → Reached text file (to + len_of next) Next
+reached_more text file to Holds Next next stands spelled more (pieces, cut, holds) = (
+  pieces ++ next ∷ [],
+  cut_more text 0 pieces to next cut stands spelled,
+  subst Next (sym (tokens_more text file 0 pieces to next cut)) (more (tokens_of file 0 pieces) holds),
+)
 
 -- no cut goes on from here: the text ends, or a fault stands here
 abbrev pub IsStuck : List ℕ → ℕ → Type 0

@@ -9,9 +9,11 @@ use Rattle.sl_text.specs.declared.token.Kind.{Kind}
 use Rattle.sl_text.specs.declared.token.Kind.TheVariants as kind
 use Rattle.sl_token.specs.declared.opening.Opening.{Opening}
 use Rattle.sl_token.specs.declared.opening.Opening.TheVariants as opens
-use Rattle.sl_token.specs.declared.piece.Piece.TheVariants.{Blank, Token}
+use Rattle.sl_token.specs.declared.piece.Piece.{Piece}
+use Rattle.sl_token.specs.declared.piece.Piece.TheVariants.{Blank, Token, Fault}
 use Rattle.sl_token.specs.Spellings.{opening_of, piece_by, piece_of}
 use Rattle.sl_token.specs.Longest.{Spells, IsLongest}
+use Rattle.sl_token.specs.Cut.{IsLongestIfSpelled}
 use Rattle.sl_token.proofs.Within.{Begun, begun}
 use Rattle.sl_token.proofs.Longest.Runs.{Longest, space_longest, line_longest, mark_longest, operator_longest, number_longest}
 use Rattle.sl_token.proofs.Longest.Comments.{block_longest}
@@ -42,3 +44,11 @@ blank_longest bytes n h = subst (Longest (Spells (opening_of bytes) bytes)) h (p
 
 pub token_longest : (bytes : List ℕ) (kind : Kind) (n : ℕ) → piece_of bytes ≡ Token kind n → IsLongest bytes n
 token_longest bytes kind n h = subst (Longest (Spells (opening_of bytes) bytes)) h (piece_longest bytes)
+
+pub longest_if_spelled : (bytes : List ℕ) → IsLongestIfSpelled bytes (piece_of bytes)
+longest_if_spelled bytes = by (piece_of bytes) (piece_longest bytes)
+  where
+    by : (piece : Piece) → Longest (Spells (opening_of bytes) bytes) piece → IsLongestIfSpelled bytes piece
+    by (Blank n) longest = longest
+    by (Token kind n) longest = longest
+    by (Fault number at) longest = tt

@@ -14,6 +14,7 @@ use Rattle.sl_token.specs.declared.piece.Piece.{Piece}
 use Rattle.sl_token.specs.declared.piece.Piece.TheVariants.{Blank, Token, Fault}
 use Rattle.sl_token.specs.Characters.{len_if, begins_identifier, char_len, start_len, continue_len}
 use Rattle.sl_token.specs.Spellings.{is_space, is_digit, is_operator, is_mark, begins_line_comment, begins_block_comment, begins_comment, begins_triple, opening_of, more, line_len, raw_len, goes_on, operator_len, escapes, ends_text, marks_behind, depth_behind, before_behind, is_bad, name_len, text_len, triple_len, comment_len, escape_len, bad_escape, is_sign, is_word, comment_by, comment_piece, operator_piece, number_piece, triple_by, triple_piece, quoted_by, quoted_piece, identifier_len, symbol_piece, letter_piece, raw_piece, name_piece, piece_by, piece_of}
+use Rattle.sl_token.specs.Cut.{LiesWithin}
 
 -- What an opening says of the bytes ------------------------------------------------------------------------------------
 
@@ -324,3 +325,12 @@ blank_within bytes n h = subst (IsWithin (length bytes)) h (piece_within bytes)
 
 pub fault_within : (bytes : List ℕ) (number at : ℕ) → piece_of bytes ≡ Fault number at → at ≤ length bytes
 fault_within bytes number at h = subst (IsWithin (length bytes)) h (piece_within bytes)
+
+-- the same of a piece at a place
+pub lies_within : (text : List ℕ) (place : ℕ) → place < length text → LiesWithin (length text) place (piece_of (drop place text))
+lies_within text place inside = by (piece_of (drop place text)) (piece_within (drop place text))
+  where
+    by : (piece : Piece) → IsWithin (length (drop place text)) piece → LiesWithin (length text) place piece
+    by (Blank n) (some, most) = let rest = length-drop place text in (some, omega arith)
+    by (Token kind n) (some, most) = let rest = length-drop place text in (some, omega arith)
+    by (Fault number at) most = let rest = length-drop place text in omega arith

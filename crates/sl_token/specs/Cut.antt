@@ -1,6 +1,6 @@
 -- The cut of a file into blanks and tokens, and the rules L that a file breaks. Places are counted in bytes, from 0.
-use Rattle.std.specs.Prelude.{◌≡◌, ◌⊎◌, ℕ, ◌+◌, ◌<◌, ◌≤◌, List, [], ◌∷◌, ◌++◌, length, take, drop, codes}
-use Rattle.std.specs.Str.{IsValidUpTo}
+use Rattle.std.specs.Prelude.{◌≡◌, ◌⊎◌, ℕ, ◌+◌, ◌<◌, ◌≤◌, List, [], ◌∷◌, ◌++◌, length, take, drop, Option, Some, None, nat_le, if◌then◌else◌, codes}
+use Rattle.std.specs.Str.{IsUtf8, IsValidUpTo}
 use Rattle.sl_text.specs.declared.fault.Broken.{Broken}
 use Rattle.sl_text.specs.declared.fault.Fault.{Fault}
 use Rattle.sl_text.specs.declared.fault.Fault.TheVariants as fault
@@ -15,6 +15,18 @@ use Rattle.sl_token.specs.Layout.{laid}
 -- at this place of a text stands this piece: a blank, a token or a fault
 abbrev pub Stands : List ℕ → ℕ → Piece → Type 0
 Stands text place stands = (place < length text) × (piece_of (drop place text) ≡ stands)
+
+-- a blank or a token that stands at a place has at least one byte, and no more than there are; a fault lies within the bytes
+abbrev pub LiesWithin : ℕ → ℕ → Piece → Type 0
+LiesWithin most place (piece.Blank len) = (0 < len) × (place + len ≤ most)
+LiesWithin most place (piece.Token kind len) = (0 < len) × (place + len ≤ most)
+LiesWithin most place (piece.Fault number at) = place + at ≤ most
+
+-- a blank or a token that stands where these bytes begin is the longest that is spelled there
+abbrev pub IsLongestIfSpelled : List ℕ → Piece → Type 0
+IsLongestIfSpelled bytes (piece.Blank len) = IsLongest bytes len
+IsLongestIfSpelled bytes (piece.Token kind len) = IsLongest bytes len
+IsLongestIfSpelled bytes (piece.Fault number at) = Unit {0}
 
 -- how many bytes a piece has, if it is a blank or a token
 abbrev pub len_of : Piece → ℕ
@@ -53,6 +65,11 @@ header = codes "// #Sireum"
 -- how many bytes a file may have
 abbrev pub most_bytes : ℕ
 most_bytes = 4194304
+
+-- a text keeps the rules L1 and L7 on how files begin and how long they are
+pub record KeepsStart (text : List ℕ) : Type 0 where
+  pub begins : take (length header) text ≡ header
+  pub short : length text ≤ most_bytes
 
 -- a text breaks the rule L1 at its start: it doesn't begin with the header
 abbrev pub BreaksHeader : List ℕ → ℕ → ℕ → Type 0
@@ -100,7 +117,17 @@ broken_at file number place =
       span = record { file = file; from = place; to = place };
     })
 
--- a fault is the first broken rule L, or want of memory, which comes only where the text has the header and isn't too long
+-- where a text stops being UTF-8, if it does
+abbrev pub IsStop : List ℕ → Option ℕ → Type 0
+IsStop text None = IsUtf8 text
+IsStop text (Some place) = IsValidUpTo text place
+
+-- the first of two rules, by their numbers and places: L2 where a text stops being UTF-8, if it does, and another
+abbrev pub first_of : Option ℕ → ℕ → ℕ → ℕ × ℕ
+first_of None number place = (number, place)
+first_of (Some stop) number place = if nat_le stop place then (2, stop) else (number, place)
+
+-- a fault is the first broken rule L, or want of memory, which comes only where the text keeps the rules L1 and L7
 abbrev pub TellsFirst : ℕ → List ℕ → Fault → Type 0
 TellsFirst file text (fault.Broken broken) = IsFirstFault file text broken
-TellsFirst file text fault.Mem = ¬ BreaksHeader text 1 0 × ¬ BreaksLength text 7 0
+TellsFirst file text fault.Mem = KeepsStart text

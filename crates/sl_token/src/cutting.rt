@@ -1,7 +1,6 @@
 // The tokens of a file.
-ghost use Rattle.std.specs.Prelude.{◌≡◌, ◌<◌, ◌≤◌, length, IfOk, IfErr};
-ghost use Rattle.std.specs.Str.{IsUtf8, IsValidUpTo};
-ghost use Rattle.sl_token.specs.Cut.{AreTokens, TellsFirst, broken_at};
+ghost use Rattle.std.specs.Prelude.{◌≡◌, ◌<◌, drop, length, IfOk, IfErr, IfSome, IfNone, ◌≤◌};
+ghost use Rattle.sl_token.specs.Cut.{Stands, LiesWithin, IsLongestIfSpelled, KeepsStart, IsStop, IsFirstBroken, first_of, AreTokens, TellsFirst, broken_at};
 
 use crate::layout::Layout;
 use crate::opening::behind;
@@ -21,17 +20,15 @@ pub fn tokens(alloc: Global, file: u32, bytes: &[u8]) -> Result<Row<Token>, Faul
     ensures ok { IfOk result (λ tokens. AreTokens file bytes.now tokens) }
     ensures err { IfErr result (λ fault. TellsFirst file bytes.now fault) }
 {
-    if !bytes.starts_with(HEADER) {
-        return Err(broken(file, 1, 0));
+    match broken_at_start(bytes) {
+        Some(number) => return Err(broken(file, number, 0)),
+        None => (),
     }
-    if bytes.len() > MOST_BYTES {
-        return Err(broken(file, 7, 0));
-    }
-    let valid = valid_len(bytes);
+    let stop = utf8_stop(bytes);
     let mut layout = Layout::new(alloc, bytes);
     let mut at = 0;
     while at < bytes.len() {
-        match piece_of(behind(bytes, at)) {
+        match piece_at(bytes, at) {
             Piece::Blank(len) => at += len,
             Piece::Token(kind, len) => {
                 let span = Span {
@@ -43,18 +40,60 @@ pub fn tokens(alloc: Global, file: u32, bytes: &[u8]) -> Result<Row<Token>, Faul
                 at += len;
             }
             Piece::Fault(number, further) => {
-                let place = at + further;
-                if valid < bytes.len() && valid <= place {
-                    return Err(broken(file, 2, valid));
-                }
+                let (number, place) = first_of(stop, number, at + further);
                 return Err(broken(file, number, place));
             }
         }
     }
-    if valid < bytes.len() {
-        return Err(broken(file, 2, valid));
+    match stop {
+        Some(place) => Err(broken(file, 2, place)),
+        None => Ok(layout.into_tokens()),
     }
-    Ok(layout.into_tokens())
+}
+
+/// The number of the first rule L that the bytes break at their start, if they break L1 or L7.
+fn broken_at_start(bytes: &[u8]) -> Option<u8>
+    ensures none { IfNone result (KeepsStart bytes.now) }
+    ensures some { IfSome result (λ number. IsFirstBroken bytes.now number 0) }
+{
+    if !bytes.starts_with(HEADER) {
+        Some(1)
+    } else if bytes.len() > MOST_BYTES {
+        Some(7)
+    } else {
+        None
+    }
+}
+
+/// Where the bytes stop being UTF-8.
+fn utf8_stop(bytes: &[u8]) -> Option<usize>
+    ensures { IsStop bytes.now result }
+{
+    match std::str::from_utf8(bytes) {
+        Ok(_) => None,
+        Err(error) => Some(error.valid_up_to()),
+    }
+}
+
+/// What stands at a place of a file.
+fn piece_at(bytes: &[u8], at: usize) -> Piece
+    requires { at < length bytes.now }
+    ensures stands { Stands bytes.now at result }
+    ensures within { LiesWithin (length bytes.now) at result }
+    ensures longest { IsLongestIfSpelled (drop at bytes.now) result }
+{
+    piece_of(behind(bytes, at))
+}
+
+/// The first of two rules L, by their numbers and places: L2 where the bytes stop being UTF-8, if they do, and another.
+fn first_of(stop: Option<usize>, number: u8, place: usize) -> (u8, usize)
+    ensures within { result.1 ≤ place }
+    ensures first { result ≡ first_of stop number place }
+{
+    match stop {
+        Some(stop) if stop <= place => (2, stop),
+        _ => (number, place),
+    }
 }
 
 /// The rule L of this number, broken at a place.
@@ -73,15 +112,4 @@ fn broken(file: u32, number: u8, place: usize) -> Fault
         to: from,
     };
     Fault::Broken(Broken { rule, span })
-}
-
-/// How many bytes the longest front has that is UTF-8.
-fn valid_len(bytes: &[u8]) -> usize
-    ensures whole { length bytes.now ≤ result → IsUtf8 bytes.now }
-    ensures front { result < length bytes.now → IsValidUpTo bytes.now result }
-{
-    match std::str::from_utf8(bytes) {
-        Ok(_) => bytes.len(),
-        Err(error) => error.valid_up_to(),
-    }
 }
