@@ -11,9 +11,6 @@ pub more_more : (count : ℕ) (len : Option ℕ) → more count (more 1 len) ≡
 more_more count None = refl
 more_more count (Some n) = ap Some (omega arith)
 
-pub more_none : (count : ℕ) → more count None ≡ None
-more_none count = refl
-
 is_same : (a b : ℕ) → a ≡ b → (a == b) ≡ true
 is_same a b is = grind (arith, nat_tests)
 

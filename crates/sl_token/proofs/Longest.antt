@@ -39,12 +39,7 @@ pub piece_longest : (bytes : List ℕ) → Longest (Spells (opening_of bytes) by
 unfolding piece_of
 piece_longest bytes = by_opening (opening_of bytes) bytes (begun bytes)
 
-pub blank_longest : (bytes : List ℕ) (n : ℕ) → piece_of bytes ≡ Blank n → IsLongest bytes n
-blank_longest bytes n h = subst (Longest (Spells (opening_of bytes) bytes)) h (piece_longest bytes)
-
-pub token_longest : (bytes : List ℕ) (kind : Kind) (n : ℕ) → piece_of bytes ≡ Token kind n → IsLongest bytes n
-token_longest bytes kind n h = subst (Longest (Spells (opening_of bytes) bytes)) h (piece_longest bytes)
-
+-- the same, as the cut says it
 pub longest_if_spelled : (bytes : List ℕ) → IsLongestIfSpelled bytes (piece_of bytes)
 longest_if_spelled bytes = by (piece_of bytes) (piece_longest bytes)
   where

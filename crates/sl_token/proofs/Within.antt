@@ -317,15 +317,6 @@ pub piece_within : (bytes : List ℕ) → IsWithin (length bytes) (piece_of byte
 unfolding piece_of
 piece_within bytes = by_opening (opening_of bytes) bytes (begun bytes)
 
-pub token_within : (bytes : List ℕ) (kind : Kind) (n : ℕ) → piece_of bytes ≡ Token kind n → (0 < n) × (n ≤ length bytes)
-token_within bytes kind n h = subst (IsWithin (length bytes)) h (piece_within bytes)
-
-pub blank_within : (bytes : List ℕ) (n : ℕ) → piece_of bytes ≡ Blank n → (0 < n) × (n ≤ length bytes)
-blank_within bytes n h = subst (IsWithin (length bytes)) h (piece_within bytes)
-
-pub fault_within : (bytes : List ℕ) (number at : ℕ) → piece_of bytes ≡ Fault number at → at ≤ length bytes
-fault_within bytes number at h = subst (IsWithin (length bytes)) h (piece_within bytes)
-
 -- the same of a piece at a place
 pub lies_within : (text : List ℕ) (place : ℕ) → place < length text → LiesWithin (length text) place (piece_of (drop place text))
 lies_within text place inside = by (piece_of (drop place text)) (piece_within (drop place text))

@@ -1,4 +1,4 @@
-use Rattle.std.proofs.Common.{◌≡◌, take, length, true≢false, sym, ◌∙◌}
+use Rattle.std.proofs.Common.{take, length, true≢false, sym, ◌∙◌}
 use Rattle.std.proofs.lemmas.Slice.Eq.{bytes_eq-Decides}
 use Rattle.sl_token.specs.Cut.{header}
 use Rattle.sl_token.proofs.Broken.{no_header_first, too_long_first}
