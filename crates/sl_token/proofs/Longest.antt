@@ -4,6 +4,7 @@ pub mod Comments
 pub mod Texts
 pub mod Names
 pub mod Letters
+pub mod Openings
 use Rattle.std.proofs.Common.{◌≡◌, ℕ, List, subst}
 use Rattle.sl_text.specs.declared.token.Kind.{Kind}
 use Rattle.sl_text.specs.declared.token.Kind.TheVariants as kind
@@ -20,6 +21,7 @@ use Rattle.sl_token.proofs.Longest.Comments.{block_longest}
 use Rattle.sl_token.proofs.Longest.Texts.{triple_longest, quoted_longest}
 use Rattle.sl_token.proofs.Longest.Names.{name_longest}
 use Rattle.sl_token.proofs.Longest.Letters.{letter_longest}
+use Rattle.sl_token.proofs.Longest.Openings.{longest_of_all}
 
 by_opening : (opening : Opening) (bytes : List ℕ) → Begun opening bytes → Longest (Spells opening bytes) (piece_by opening bytes)
 by_opening opens.Space bytes h = space_longest bytes h
@@ -44,6 +46,6 @@ pub longest_if_spelled : (bytes : List ℕ) → IsLongestIfSpelled bytes (piece_
 longest_if_spelled bytes = by (piece_of bytes) (piece_longest bytes)
   where
     by : (piece : Piece) → Longest (Spells (opening_of bytes) bytes) piece → IsLongestIfSpelled bytes piece
-    by (Blank n) longest = longest
-    by (Token kind n) longest = longest
+    by (Blank n) longest = (longest.0, longest_of_all bytes n longest.0 longest.1)
+    by (Token kind n) longest = (longest.0, longest_of_all bytes n longest.0 longest.1)
     by (Fault number at) longest = tt

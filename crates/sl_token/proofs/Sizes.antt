@@ -14,7 +14,7 @@ size_bounds (byte ∷ bytes) =
     in (bounds.1, bounds.2)
 
 -- an ASCII byte is a character by itself
-ascii_decoded : (byte : ℕ) (bytes : List ℕ) → byte < 128 → decoded (byte ∷ bytes) ≡ good byte 1
+pub ascii_decoded : (byte : ℕ) (bytes : List ℕ) → byte < 128 → decoded (byte ∷ bytes) ≡ good byte 1
 ascii_decoded byte bytes small =
     let test : nat_lt byte 128 ≡ true = grind (arith, nat_tests) in
     let some : (suc (length bytes) == 0) ≡ false = grind (arith, nat_tests) in

@@ -183,6 +183,6 @@ Spells opens.Apostrophe bytes n = (slice_index bytes 0 ≡ 39) × (IsLetter byte
 Spells opens.Name bytes n = IsIdentifier bytes n ⊎ IsPrefixed bytes n
 Spells opens.Nothing bytes n = ⊥
 
--- this is spelled, and nothing longer
+-- this is spelled by what the bytes begin with, and nothing longer is spelled by anything
 abbrev pub IsLongest : List ℕ → ℕ → Type 0
-IsLongest bytes n = Spells (opening_of bytes) bytes n × ((m : ℕ) → Spells (opening_of bytes) bytes m → m ≤ n)
+IsLongest bytes n = Spells (opening_of bytes) bytes n × ((opening : Opening) (m : ℕ) → Spells opening bytes m → m ≤ n)

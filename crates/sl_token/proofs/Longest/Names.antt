@@ -262,7 +262,7 @@ widened Spelled Wider wider other (Token of n) is = (wider n is.0, λ m spelled.
 widened Spelled Wider wider other (Fault number at) is = tt
 
 -- of three marks the second
-second_mark : (at : ℕ) (bytes : List ℕ) → begins_triple (drop at bytes) ≡ true → slice_index (drop (at + 1) bytes) 0 ≡ 34
+pub second_mark : (at : ℕ) (bytes : List ℕ) → begins_triple (drop at bytes) ≡ true → slice_index (drop (at + 1) bytes) 0 ≡ 34
 unfolding begins_triple
 second_mark at bytes e =
     let rest = drop at bytes in
