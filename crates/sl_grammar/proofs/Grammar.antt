@@ -1,14 +1,17 @@
 -- A grammar that passes its test is read.
-use Rattle.std.proofs.Common.{append-nil, ◌≡◌, ℕ, suc, ◌+◌, ◌≤◌, List, [], ◌∷◌, ◌++◌, length, refl, sym, ◌∙◌, subst, ◌⊎◌, inl, inr, Bool, true, false, if◌then◌else◌, arith}
+use Rattle.std.proofs.Common.{append-nil, ◌≡◌, ℕ, suc, ◌+◌, ◌≤◌, List, [], ◌∷◌, ◌++◌, length, refl, sym, ap, ◌∙◌, subst, true≢false, ◌⊎◌, inl, inr, Bool, true, false, if◌then◌else◌, arith}
 use Rattle.std.specs.Prelude.{eqb}
 use Rattle.std.proofs.lemmas.Bool.{eqb-true}
 use Rattle.sl_grammar.specs.Phrase.{Found, Stopped, spells_both, spells_either, read_both, read_either}
 use Rattle.sl_grammar.specs.Law.{Word, Disjoint, Law, Shape, no_token, either_token}
 use Rattle.sl_grammar.specs.Many.{spells_many, read_list}
 use Rattle.sl_grammar.specs.Guard.{guard}
-use Rattle.sl_grammar.specs.Grammar.{Form, Token, Nothing, Ref, Then, Either, Room, Many, Chain, has, disjoint, subset, Sets, and, not, sets_of, ok, is, Val, step_on, chain_room, spells_form, read_form}
+use Rattle.sl_grammar.specs.Grammar.{Form, Token, Nothing, Ref, Then, Either, Room, Many, Chain, Gate, has, less, disjoint, subset, Sets, and, not, sets_of, has_word, some_left, ok, is, Val, step_on, chain_room, spells_form, read_form, Ahead, Without}
 use Rattle.sl_grammar.specs.Steps.{spells_steps}
 use Rattle.sl_grammar.proofs.Steps.{first_steps_law}
+use Rattle.sl_grammar.proofs.Gated.{gate_law}
+use Rattle.sl_grammar.proofs.Ahead.{ahead_shape, ahead_law}
+use Rattle.sl_grammar.proofs.Without.{without_shape, without_law}
 use Rattle.sl_grammar.proofs.Laws.{token_law, nothing_law, alike_law, in_either}
 use Rattle.sl_grammar.proofs.Pieces.{token_shape, nothing_shape, solid_shape, loose_shape, either_shape, seen_shape, choice_law, weaker_law, both_law, then_any, longer, then_shape}
 use Rattle.sl_grammar.proofs.Many.{many_shape, many_piece}
@@ -40,6 +43,10 @@ parts true true false d e f h = absurd cc
 parts true true true false e f h = absurd cc
 parts true true true true false f h = absurd cc
 parts true true true true true false h = absurd cc
+
+pub seven_parts : (a b c d e f g : Bool) → and a (and b (and c (and d (and e (and f g))))) ≡ true → (a ≡ true) × (b ≡ true) × (c ≡ true) × (d ≡ true) × (e ≡ true) × (f ≡ true) × (g ≡ true)
+seven_parts false b c d e f g h = absurd cc
+seven_parts true b c d e f g h = let (i, j, k, l, m, n) = parts b c d e f g h in (refl, i, j, k, l, m, n)
 
 not_true : (a : Bool) → not a ≡ true → a ≡ false
 not_true true e = absurd cc
@@ -81,8 +88,38 @@ has_right xs ys j e = has_append xs ys j ∙ by (has xs j)
     by true = refl
     by false = e
 
+-- what is in one list and not in another
+
+pub less_has : (xs ys : List ℕ) (j : ℕ) → has (less xs ys) j ≡ true → (has xs j ≡ true) × (has ys j ≡ false)
+less_has [] ys j e = absurd cc
+less_has (x ∷ xs) ys j e = by (has ys x) refl (eqb x j) refl e (less_has xs ys j)
+  where
+    by : (c : Bool) → has ys x ≡ c → (b : Bool) → eqb x j ≡ b → has (if c then less xs ys else x ∷ less xs ys) j ≡ true → (has (less xs ys) j ≡ true → (has xs j ≡ true) × (has ys j ≡ false)) → ((if b then true else has xs j) ≡ true) × (has ys j ≡ false)
+    by true q true p e go = let (f, g) = go e in (refl, g)
+    by true q false p e go = go e
+    by false q true p e go = let s : x ≡ j = eqb-true x j p in (refl, subst (λ z. has ys z ≡ false) s q)
+    by false q false p e go = go (sym (ap (λ z. if z then true else has (less xs ys) j) p) ∙ e)
+
+pub has_less : (xs ys : List ℕ) (j : ℕ) → has xs j ≡ true → has ys j ≡ false → has (less xs ys) j ≡ true
+has_less [] ys j e f = absurd cc
+has_less (x ∷ xs) ys j e f = by (has ys x) refl (eqb x j) refl e (λ e. has_less xs ys j e f)
+  where
+    by : (c : Bool) → has ys x ≡ c → (b : Bool) → eqb x j ≡ b → (if b then true else has xs j) ≡ true → (has xs j ≡ true → has (less xs ys) j ≡ true) → has (if c then less xs ys else x ∷ less xs ys) j ≡ true
+    by true q true p e go = let s : x ≡ j = eqb-true x j p in absurd (true≢false (sym q ∙ (ap (λ z. has ys z) s ∙ f)))
+    by true q false p e go = go e
+    by false q true p e go = ap (λ z. if z then true else has (less xs ys) j) p
+    by false q false p e go = ap (λ z. if z then true else has (less xs ys) j) p ∙ go e
+
 pub same_shape : {K X : Type 0} {l : X → List K → Type 0} {p q : K → Bool} {b : Bool} → ((k : K) → p k ≡ q k) → Shape l p b → Shape l q b
 same_shape same s = record { starts = record { sure = λ k e. s.starts.sure k (same k ∙ e); only = λ k w. sym (same k) ∙ s.starts.only k w }; word = s.word; some = s.some; empty = s.empty }
+
+pub passes : {K : Type 0} (kind : K → ℕ) (sample : ℕ → K) (k : ℕ) (ks : List ℕ) → eqb k (kind (sample k)) ≡ true → is kind (k ∷ ks) (sample k) ≡ true
+passes kind sample k ks e = rw e
+
+-- a kind that is left has a token
+left_in : {K : Type 0} (kind : K → ℕ) (sample : ℕ → K) (ks : List ℕ) → some_left kind sample ks ≡ true → (k : ℕ) × (is kind ks (sample k) ≡ true)
+left_in kind sample [] e = absurd cc
+left_in kind sample (k ∷ ks) e = (k, passes kind sample k ks e)
 
 module _ {K : Type 0} (kind : K → ℕ) where
   abbrev In : List ℕ → K → Bool
@@ -101,6 +138,15 @@ module _ {K : Type 0} (kind : K → ℕ) where
       by (inl e) = has_left f (p ++ q) (kind k) e
       by (inr e) = has_right f (p ++ q) (kind k) (sym (either_in p q k) ∙ e)
   after_in f p q false k u = sym (either_in p q k) ∙ u
+
+  -- what may go on after a gate
+  gate_in : (o f p q : List ℕ) (c : Bool) (k : K) → (if c then either_token (In o) (either_token (In f) (either_token (In p) (In q))) else either_token (In p) (In q)) k ≡ true → In (let both = if c then f ++ (p ++ q) else p ++ q in if c then o ++ both else both) k ≡ true
+  gate_in o f p q true k u = by (in_either (In o) (either_token (In f) (either_token (In p) (In q))) k u)
+    where
+      by : (In o k ≡ true) ⊎ (either_token (In f) (either_token (In p) (In q)) k ≡ true) → In (o ++ (f ++ (p ++ q))) k ≡ true
+      by (inl e) = has_left o (f ++ (p ++ q)) (kind k) e
+      by (inr e) = has_right o (f ++ (p ++ q)) (kind k) (after_in f p q true k e)
+  gate_in o f p q false k u = after_in f p q false k u
 
   module _ {X Y : Type 0} {l : X → List K → Type 0} {m : Y → List K → Type 0} where
     then_shape_in : (f g : List ℕ) (b c : Bool) (s t : Bool) → Shape l (In f) b → (s ≡ true → Shape m (In g) c) → (t ≡ true → Shape m (In g) c) → (if b then s else t) ≡ true → Shape (spells_both l m) (In (if b then f ++ g else f)) (if b then c else false)
@@ -152,9 +198,101 @@ module _ {K : Type 0} (kind : K → ℕ) where
   many_law_in : {X : Type 0} {l : X → List K → Type 0} {read : List K → Found K X} (f p : List ℕ) (i : ℕ) → Shape l (In f) false → Law l read (In p) i → disjoint p f ≡ true → Law (spells_many l) (read_list (In f) read) (In (f ++ p)) i
   many_law_in {l = l} {read = read} f p i sl ll d = weaker_law (many_piece l read (In f) (In p) (apart_in p f d) (record { shape = sl; law = ll })).law (λ k e. sym (either_in f p k) ∙ e)
 
+  in_less : (f ks : List ℕ) (k : K) → In (less f ks) k ≡ true → (In f k ≡ true) × (In ks k ≡ false)
+  in_less f ks k e = less_has f ks (kind k) e
+
+  into_less : (f ks : List ℕ) (k : K) → In f k ≡ true → In ks k ≡ false → In (less f ks) k ≡ true
+  into_less f ks k e g = has_less f ks (kind k) e g
+
+  -- the tokens that begin a phrase, by another list of the same kinds
+  named_shape : {X : Type 0} {l : X → List K → Type 0} (f js : List ℕ) {b : Bool} → subset js f ≡ true → subset f js ≡ true → Shape l (In f) b → Shape l (In js) b
+  named_shape f js c d s = record { starts = record { sure = λ k e. s.starts.sure k (subset_sound js f (kind k) c e); only = λ k w. subset_sound f js (kind k) d (s.starts.only k w) }; word = s.word; some = s.some; empty = s.empty }
+
+-- what the test tells of a choice that looks two tokens ahead
+pub record TwoAhead {K N : Type 0} (kind : K → ℕ) (sample : ℕ → K) (sets : N → Sets) (valid lead : N → Bool) (k : ℕ) (ks js : List ℕ) (p q : Form N) : Type 0 where
+  pub sampled : eqb k (kind (sample k)) ≡ true
+  pub begins : subset (k ∷ ks) (sets_of sets q).first ≡ true
+  pub named : subset js (sets_of sets p).first ≡ true
+  pub all : subset (sets_of sets p).first js ≡ true
+  pub left : (sets_of sets p).blank ≡ false
+  pub left_later : and (has_word valid p) (ok kind sample sets valid valid p) ≡ true
+  pub left_ok : ok kind sample sets valid valid p ≡ true
+  pub right : (sets_of sets q).blank ≡ false
+  pub right_ok : ok kind sample sets valid lead q ≡ true
+
+pub two_ahead : {K N : Type 0} (kind : K → ℕ) (sample : ℕ → K) (sets : N → Sets) (valid lead : N → Bool) (k : ℕ) (ks js : List ℕ) (p q : Form N) → ok kind sample sets valid lead (Ahead (k ∷ ks) js p q) ≡ true → TwoAhead kind sample sets valid lead k ks js p q
+two_ahead kind sample sets valid lead k ks js p q e =
+    let l = and (has_word valid p) (ok kind sample sets valid valid p) in
+    let r = ok kind sample sets valid lead q in
+    let m = not (sets_of sets p).blank in
+    let n = not (sets_of sets q).blank in
+    let h = parts (eqb k (kind (sample k))) (subset (k ∷ ks) (sets_of sets q).first) (subset js (sets_of sets p).first) (subset (sets_of sets p).first js) (and m l) (and n r) e in
+    record {
+      sampled = h.0;
+      begins = h.1;
+      named = h.2;
+      all = h.3;
+      left = not_true (sets_of sets p).blank (and_left m l h.4);
+      left_later = and_right m l h.4;
+      left_ok = and_right (has_word valid p) (ok kind sample sets valid valid p) (and_right m l h.4);
+      right = not_true (sets_of sets q).blank (and_left n r h.5);
+      right_ok = and_right n r h.5;
+    }
+
 pub by_blank : {R : Type 0} (b s t : Bool) → (if b then s else t) ≡ true → (s ≡ true → R) → (t ≡ true → R) → R
 by_blank true s t e f g = f e
 by_blank false s t e f g = g e
+
+module _ {K N : Type 0} (kind : K → ℕ) (sample : ℕ → K) (T : N → Type 0) (room : (i j : N) → T i → List (T j) → Bool) (spells : (i : N) → T i → List K → Type 0) (sets : N → Sets) (valid : N → Bool) where
+  abbrev Passes : (N → Bool) → Form N → Type 0
+  Passes first g = ok kind sample sets valid first g ≡ true
+
+  -- a form has a word, where the names that it needs have one
+  pub form_word : (known : N → Bool) → ((i : N) → known i ≡ true → Word (spells i)) → (g : Form N) (first : N → Bool) → Passes first g → has_word known g ≡ true → Word (spells_form kind T room spells g)
+  form_word known word (Token []) first e h = absurd cc
+  form_word known word (Token (k ∷ ks)) first e h = (sample k, sample k ∷ [], (refl, passes kind sample k ks e))
+  form_word known word Nothing first e h = (tt, [], refl)
+  form_word known word (Ref i) first e h = word i h
+  form_word known word (Then p q) first e h =
+      let b = (sets_of sets p).blank in
+      let c = ok kind sample sets valid first q in
+      let d = and (has_word valid q) (ok kind sample sets valid valid q) in
+      let f = and_right _ (and (ok kind sample sets valid first p) (if b then c else d)) e in
+      let (x, u, w) = form_word known word p first (and_left (ok kind sample sets valid first p) (if b then c else d) f) (and_left (has_word known p) (has_word known q) h) in
+      let (y, v, z) = by_blank b c d (and_right (ok kind sample sets valid first p) (if b then c else d) f) (λ g. form_word known word q first g (and_right (has_word known p) (has_word known q) h)) (λ g. form_word known word q valid (and_right (has_word valid q) (ok kind sample sets valid valid q) g) (and_right (has_word known p) (has_word known q) h)) in
+      ((x, y), u ++ v, (u, v, refl, w, z))
+  form_word known word (Either p q) first e h =
+      by (has_word known p) refl h
+      (λ g. form_word known word p first (and_left (ok kind sample sets valid first p) (ok kind sample sets valid first q) both) g)
+      (λ g. form_word known word q first (and_right (ok kind sample sets valid first p) (ok kind sample sets valid first q) both) g)
+    where
+      both : and (ok kind sample sets valid first p) (ok kind sample sets valid first q) ≡ true
+      both =
+          let d = disjoint (sets_of sets p).first (sets_of sets q).first in
+          let c = and (ok kind sample sets valid first p) (ok kind sample sets valid first q) in
+          and_right d c (and_right (not (sets_of sets p).blank) (and d c) e)
+
+      by : (b : Bool) → has_word known p ≡ b → (if b then true else has_word known q) ≡ true → (has_word known p ≡ true → Word (spells_form kind T room spells p)) → (has_word known q ≡ true → Word (spells_form kind T room spells q)) → Word (spells_form kind T room spells (Either p q))
+      by true g h f f' = let (x, a, w) = f g in (inl x, a, w)
+      by false g h f f' = let (x, a, w) = f' h in (inr x, a, w)
+  form_word known word (Room c p q) first e h =
+      let (y, b, v) = form_word known word q first (and_right _ (ok kind sample sets valid first q) (and_right _ _ e)) h in
+      (inr y, b, v)
+  form_word known word (Many p) first e h = ([], [], refl)
+  form_word known word (Chain c i j) first e h = let (x, a, w) = word i h in ((x, []), a, (a, [], sym (append-nil a), w, refl))
+  form_word known word (Gate i p q) first e h =
+      let s = sets_of sets p in
+      let r = sets_of sets q in
+      let passed = seven_parts (first i) (not (sets i).blank) (disjoint (sets i).after (s.first ++ r.first)) (not s.blank) (disjoint s.first r.first) (ok kind sample sets valid valid p) (and (has_word valid q) (ok kind sample sets valid valid q)) e in
+      let (x, a, w) = word i (and_left (known i) (has_word known q) h) in
+      let (y, b, v) = form_word known word q valid (and_right (has_word valid q) (ok kind sample sets valid valid q) passed.6) (and_right (known i) (has_word known q) h) in
+      ((x, inr y), a ++ b, (a, b, refl, w, v))
+  form_word known word (Ahead [] js p q) first e h = absurd cc
+  form_word known word (Ahead (k ∷ ks) js p q) first e h =
+      let t = two_ahead kind sample sets valid first k ks js p q e in
+      let (x, a, w) = form_word known word p valid t.left_ok h in
+      (inl (sample k, x), sample k ∷ a, (sample k ∷ [], a, refl, (refl, passes kind sample k ks t.sampled), w))
+  form_word known word (Without ks p) first e h = absurd cc
 
 module _ {K N : Type 0} (kind : K → ℕ) (sample : ℕ → K) (T : N → Type 0) (room : (i j : N) → T i → List (T j) → Bool) (spells : (i : N) → T i → List K → Type 0) (sets : N → Sets) (valid : N → Bool) (word : (i : N) → valid i ≡ true → Word (spells i)) where
   abbrev Spells : (g : Form N) → Val kind T g → List K → Type 0
@@ -166,52 +304,53 @@ module _ {K N : Type 0} (kind : K → ℕ) (sample : ℕ → K) (T : N → Type 
   abbrev Solid : Form N → Type 0
   Solid g = Shape (Spells g) (is kind (sets_of sets g).first) (sets_of sets g).blank
 
-  pub passes : (k : ℕ) (ks : List ℕ) → eqb k (kind (sample k)) ≡ true → is kind (k ∷ ks) (sample k) ≡ true
-  passes k ks e = rw e
+  -- the test of a form whose word is needed
+  abbrev Later : Form N → Bool
+  Later g = and (has_word valid g) (Ok valid g)
+
+  later_word : (g : Form N) → Later g ≡ true → Word (Spells g)
+  later_word g e = form_word kind sample T room spells sets valid valid word g valid (and_right (has_word valid g) (Ok valid g) e) (and_left (has_word valid g) (Ok valid g) e)
+
+  later_ok : (g : Form N) → Later g ≡ true → Ok valid g ≡ true
+  later_ok g e = and_right (has_word valid g) (Ok valid g) e
 
   chain_ok : (lead : N → Bool) (c : Bool) (i j : N) → Ok lead (Chain c i j) ≡ true → (lead i ≡ true) × (not (sets i).blank ≡ true) × (disjoint (sets i).after (sets j).first ≡ true) × (disjoint (sets j).after (sets j).first ≡ true) × ((if c then and (not (sets j).blank) (valid j) else true) ≡ true)
   chain_ok lead c i j e = five_parts (lead i) (not (sets i).blank) (disjoint (sets i).after (sets j).first) (disjoint (sets j).after (sets j).first) (if c then and (not (sets j).blank) (valid j) else true) e
+
+  -- what the test of a gate tells
+  abbrev GateTest : (N → Bool) → N → Form N → Form N → Type 0
+  GateTest lead i p q =
+      (lead i ≡ true) × (not (sets i).blank ≡ true) × (disjoint (sets i).after ((sets_of sets p).first ++ (sets_of sets q).first) ≡ true) × (not (sets_of sets p).blank ≡ true)
+      × (disjoint (sets_of sets p).first (sets_of sets q).first ≡ true) × (Ok valid p ≡ true) × (Later q ≡ true)
+
+  gate_ok : (lead : N → Bool) (i : N) (p q : Form N) → Ok lead (Gate i p q) ≡ true → GateTest lead i p q
+  gate_ok lead i p q e =
+      seven_parts (lead i) (not (sets i).blank) (disjoint (sets i).after ((sets_of sets p).first ++ (sets_of sets q).first)) (not (sets_of sets p).blank) (disjoint (sets_of sets p).first (sets_of sets q).first) (Ok valid p) (Later q) e
+
+  less_ok : (lead : N → Bool) (ks : List ℕ) (p : Form N) → Ok lead (Without ks p) ≡ true → (not (sets_of sets p).blank ≡ true) × (some_left kind sample (less (sets_of sets p).first ks) ≡ true) × (Ok lead p ≡ true)
+  less_ok lead ks p e =
+      let b = not (sets_of sets p).blank in
+      let l = some_left kind sample (less (sets_of sets p).first ks) in
+      let h = and_right b (and l (Ok lead p)) e in
+      (and_left b (and l (Ok lead p)) e, and_left l (Ok lead p) h, and_right l (Ok lead p) h)
 
   -- there is room only where a chain may have links
   may : (c b d : Bool) → (if c then and (not b) d else true) ≡ true → c ≡ true → (b ≡ false) × (d ≡ true)
   may true b d e f = (not_true b (and_left (not b) d e), and_right (not b) d e)
   may false b d e f = absurd cc
 
-  -- each form has a word
-  pub form_word : (g : Form N) → Ok valid g ≡ true → Word (Spells g)
-  form_word (Token []) e = absurd cc
-  form_word (Token (k ∷ ks)) e = (sample k, sample k ∷ [], (refl, passes k ks e))
-  form_word Nothing e = (tt, [], refl)
-  form_word (Ref i) e = word i e
-  form_word (Then p q) e =
-      let h = and_right (disjoint (sets_of sets p).after (sets_of sets q).first) (and (Ok valid p) (if (sets_of sets p).blank then Ok valid q else Ok valid q)) e in
-      let (x, a, w) = form_word p (and_left (Ok valid p) (if (sets_of sets p).blank then Ok valid q else Ok valid q) h) in
-      let (y, b, v) = form_word q (by_blank (sets_of sets p).blank (Ok valid q) (Ok valid q) (and_right (Ok valid p) (if (sets_of sets p).blank then Ok valid q else Ok valid q) h) (λ e. e) (λ e. e)) in
-      ((x, y), a ++ b, (a, b, refl, w, v))
-  form_word (Either p q) e =
-      let h = and_right (not (sets_of sets p).blank) (and (disjoint (sets_of sets p).first (sets_of sets q).first) (and (Ok valid p) (Ok valid q))) e in
-      let i = and_right (disjoint (sets_of sets p).first (sets_of sets q).first) (and (Ok valid p) (Ok valid q)) h in
-      let (x, a, w) = form_word p (and_left (Ok valid p) (Ok valid q) i) in
-      (inl x, a, w)
-  form_word (Room c p q) e =
-      let h = and_right (if c then and (not (sets_of sets p).blank) (Ok valid p) else true) (and (disjoint (sets_of sets p).first (sets_of sets q).first) (Ok valid q)) e in
-      let (y, b, v) = form_word q (and_right (disjoint (sets_of sets p).first (sets_of sets q).first) (Ok valid q) h) in
-      (inr y, b, v)
-  form_word (Many p) e = ([], [], refl)
-  form_word (Chain c i j) e = let (x, a, w) = word i (chain_ok valid c i j e).0 in ((x, []), a, (a, [], sym (append-nil a), w, refl))
-
   -- how each form begins, where that is known of the names that may stand first
   pub form_shape : (lead : N → Bool) → ((i : N) → lead i ≡ true → Shape (spells i) (is kind (sets i).first) (sets i).blank) → (g : Form N) → Ok lead g ≡ true → Solid g
   form_shape lead shape (Token []) e = absurd cc
-  form_shape lead shape (Token (k ∷ ks)) e = token_shape (is kind (k ∷ ks)) (sample k) (passes k ks e)
+  form_shape lead shape (Token (k ∷ ks)) e = token_shape (is kind (k ∷ ks)) (sample k) (passes kind sample k ks e)
   form_shape lead shape Nothing e = nothing_shape
   form_shape lead shape (Ref i) e = shape i e
   form_shape lead shape (Then p q) e =
-      let h = and_right (disjoint (sets_of sets p).after (sets_of sets q).first) (and (Ok lead p) (if (sets_of sets p).blank then Ok lead q else Ok valid q)) e in
-      first_shape_in kind (sets_of sets p).first (sets_of sets q).first (sets_of sets p).blank (sets_of sets q).blank (Ok lead q) (Ok valid q)
-      (form_shape lead shape p (and_left (Ok lead p) (if (sets_of sets p).blank then Ok lead q else Ok valid q) h))
-      (form_shape lead shape q) (form_word q)
-      (and_right (Ok lead p) (if (sets_of sets p).blank then Ok lead q else Ok valid q) h)
+      let h = and_right (disjoint (sets_of sets p).after (sets_of sets q).first) (and (Ok lead p) (if (sets_of sets p).blank then Ok lead q else Later q)) e in
+      first_shape_in kind (sets_of sets p).first (sets_of sets q).first (sets_of sets p).blank (sets_of sets q).blank (Ok lead q) (Later q)
+      (form_shape lead shape p (and_left (Ok lead p) (if (sets_of sets p).blank then Ok lead q else Later q) h))
+      (form_shape lead shape q) (later_word q)
+      (and_right (Ok lead p) (if (sets_of sets p).blank then Ok lead q else Later q) h)
   form_shape lead shape (Either p q) e =
       let b = and_left (not (sets_of sets p).blank) (and (disjoint (sets_of sets p).first (sets_of sets q).first) (and (Ok lead p) (Ok lead q))) e in
       let h = and_right (not (sets_of sets p).blank) (and (disjoint (sets_of sets p).first (sets_of sets q).first) (and (Ok lead p) (Ok lead q))) e in
@@ -237,6 +376,20 @@ module _ {K N : Type 0} (kind : K → ℕ) (sample : ℕ → K) (T : N → Type 
       let b : (sets i).blank ≡ false = not_true (sets i).blank h.1 in
       subst (Shape (Spells (Chain c i j)) (is kind (sets i).first)) (sym b)
       (then_shape {m = λ y. spells_steps (spells j) (chain_room kind T room c i j) step_on (y, [])} (subst (Shape (spells i) (is kind (sets i).first)) b (shape i h.0)) (λ x. ([], [], refl)))
+  form_shape lead shape (Gate i p q) e =
+      let h = gate_ok lead i p q e in
+      then_shape {m = λ y. spells_either (λ z us. (room i i y [] ≡ true) × Spells p z us) (Spells q)} (subst (Shape (spells i) (is kind (sets i).first)) (not_true (sets i).blank h.1) (shape i h.0))
+      (λ x. let (y, b, v) = later_word q h.6 in (inr y, b, v))
+  form_shape lead shape (Ahead [] js p q) e = absurd cc
+  form_shape lead shape (Ahead (k ∷ ks) js p q) e =
+      let h = two_ahead kind sample sets valid lead k ks js p q e in
+      let sq = subst (Shape (Spells q) (is kind (sets_of sets q).first)) h.right (form_shape lead shape q h.right_ok) in
+      ahead_shape (is kind (k ∷ ks)) (is kind js) (Spells p) (Spells q) (later_word p h.left_later) (λ i t. sq.starts.sure i (subset_sound (k ∷ ks) (sets_of sets q).first (kind i) h.begins t)) sq
+  form_shape lead shape (Without ks p) e =
+      let h = less_ok lead ks p e in
+      let (k, t) = left_in kind sample (less (sets_of sets p).first ks) h.1 in
+      without_shape (is kind ks) (Spells p) (sample k) t (λ j. in_less kind (sets_of sets p).first ks j) (λ j. into_less kind (sets_of sets p).first ks j)
+      (subst (Shape (Spells p) (is kind (sets_of sets p).first)) (not_true (sets_of sets p).blank h.0) (form_shape lead shape p h.2))
 
   module _ (shape : (i : N) → valid i ≡ true → Shape (spells i) (is kind (sets i).first) (sets i).blank) where
     abbrev Reads : (g : Form N) → (List K → Found K (Val kind T g)) → ℕ → Type 0
@@ -248,20 +401,20 @@ module _ {K N : Type 0} (kind : K → ℕ) (sample : ℕ → K) (T : N → Type 
     -- each form is read, where what may stand first is read up to a length, and what stands later up to one less
     pub form_law : (g : Form N) (lead : N → Bool) (first later : (i : N) → List K → Found K (T i)) (a b : ℕ) → a ≤ suc b → ((i : N) → lead i ≡ true → valid i ≡ true) → Ok lead g ≡ true → Knows lead first a → Knows valid later b → Reads g (read_form kind T room sets g first later) a
     form_law (Token []) lead first later a b ab known e kf kl = absurd cc
-    form_law (Token (k ∷ ks)) lead first later a b ab known e kf kl = token_law (is kind (k ∷ ks)) (sample k) (passes k ks e) a
+    form_law (Token (k ∷ ks)) lead first later a b ab known e kf kl = token_law (is kind (k ∷ ks)) (sample k) (passes kind sample k ks e) a
     form_law Nothing lead first later a b ab known e kf kl = nothing_law a
     form_law (Ref i) lead first later a b ab known e kf kl = kf i e
     form_law (Then p q) lead first later a b ab known e kf kl =
-        let d = and_left (disjoint (sets_of sets p).after (sets_of sets q).first) (and (Ok lead p) (if (sets_of sets p).blank then Ok lead q else Ok valid q)) e in
-        let h = and_right (disjoint (sets_of sets p).after (sets_of sets q).first) (and (Ok lead p) (if (sets_of sets p).blank then Ok lead q else Ok valid q)) e in
-        let u = and_left (Ok lead p) (if (sets_of sets p).blank then Ok lead q else Ok valid q) h in
-        let v = and_right (Ok lead p) (if (sets_of sets p).blank then Ok lead q else Ok valid q) h in
-        then_law_in kind (sets_of sets p).first (sets_of sets p).after (sets_of sets q).first (sets_of sets q).after (sets_of sets p).blank (sets_of sets q).blank (Ok lead q) (Ok valid q) a b ab
+        let d = and_left (disjoint (sets_of sets p).after (sets_of sets q).first) (and (Ok lead p) (if (sets_of sets p).blank then Ok lead q else Later q)) e in
+        let h = and_right (disjoint (sets_of sets p).after (sets_of sets q).first) (and (Ok lead p) (if (sets_of sets p).blank then Ok lead q else Later q)) e in
+        let u = and_left (Ok lead p) (if (sets_of sets p).blank then Ok lead q else Later q) h in
+        let v = and_right (Ok lead p) (if (sets_of sets p).blank then Ok lead q else Later q) h in
+        then_law_in kind (sets_of sets p).first (sets_of sets p).after (sets_of sets q).first (sets_of sets q).after (sets_of sets p).blank (sets_of sets q).blank (Ok lead q) (Later q) a b ab
         (form_shape lead (λ i l. shape i (known i l)) p u)
         (form_law p lead first later a b ab known u kf kl)
-        (by_blank (sets_of sets p).blank (Ok lead q) (Ok valid q) v (form_shape lead (λ i l. shape i (known i l)) q) (form_shape valid shape q))
+        (by_blank (sets_of sets p).blank (Ok lead q) (Later q) v (form_shape lead (λ i l. shape i (known i l)) q) (λ w. form_shape valid shape q (later_ok q w)))
         (λ w. form_law q lead first later a b ab known w kf kl)
-        (λ w. form_law q valid later later b b (omega arith) (λ i l. l) w kl kl)
+        (λ w. form_law q valid later later b b (omega arith) (λ i l. l) (later_ok q w) kl kl)
         v d
     form_law (Either p q) lead first later a b ab known e kf kl =
         let n = and_left (not (sets_of sets p).blank) (and (disjoint (sets_of sets p).first (sets_of sets q).first) (and (Ok lead p) (Ok lead q))) e in
@@ -318,3 +471,28 @@ module _ {K N : Type 0} (kind : K → ℕ) (sample : ℕ → K) (T : N → Type 
             by : (is kind (sets i).after k ≡ true) ⊎ (either_token (is kind (sets j).first) (is kind (sets j).after) k ≡ true) → is kind ((sets i).after ++ ((sets j).first ++ (sets j).after)) k ≡ true
             by (inl e) = has_left (sets i).after ((sets j).first ++ (sets j).after) (kind k) e
             by (inr e) = has_right (sets i).after ((sets j).first ++ (sets j).after) (kind k) (sym (either_in kind (sets j).first (sets j).after k) ∙ e)
+    form_law (Gate i p q) lead first later a b ab known e kf kl =
+        let h = gate_ok lead i p q e in
+        gate_law (λ x. room i i x []) (sets_of sets q).blank a b ab
+        (subst (Shape (spells i) (is kind (sets i).first)) (not_true (sets i).blank h.1) (shape i (known i h.0))) (kf i h.0)
+        (subst (Shape (Spells p) (is kind (sets_of sets p).first)) (not_true (sets_of sets p).blank h.3) (form_shape valid shape p h.5))
+        (form_law p valid later later b b (omega arith) (λ i l. l) h.5 kl kl)
+        (form_shape valid shape q (later_ok q h.6))
+        (form_law q valid later later b b (omega arith) (λ i l. l) (later_ok q h.6) kl kl)
+        (apart_in kind (sets_of sets p).first (sets_of sets q).first h.4)
+        (λ k u v. apart_in kind (sets i).after ((sets_of sets p).first ++ (sets_of sets q).first) h.2 k u (sym (either_in kind (sets_of sets p).first (sets_of sets q).first k) ∙ v))
+        (gate_in kind (sets i).after (sets_of sets p).first (sets_of sets p).after (sets_of sets q).after (sets_of sets q).blank)
+    form_law (Ahead [] js p q) lead first later a b ab known e kf kl = absurd cc
+    form_law (Ahead (k ∷ ks) js p q) lead first later a b ab known e kf kl =
+        let h = two_ahead kind sample sets valid lead k ks js p q e in
+        let sp = named_shape kind (sets_of sets p).first js h.named h.all (subst (Shape (Spells p) (is kind (sets_of sets p).first)) h.left (form_shape valid shape p h.left_ok)) in
+        let sq = subst (Shape (Spells q) (is kind (sets_of sets q).first)) h.right (form_shape lead (λ i l. shape i (known i l)) q h.right_ok) in
+        weaker_law
+        (ahead_law (is kind (k ∷ ks)) (is kind js) (Spells p) (Spells q) sp (sq.some refl) (λ i t. sq.starts.sure i (subset_sound (k ∷ ks) (sets_of sets q).first (kind i) h.begins t)) a b ab
+        (form_law p valid later later b b (omega arith) (λ i l. l) h.left_ok kl kl)
+        (form_law q lead first later a b ab known h.right_ok kf kl))
+        (after_in kind js (sets_of sets p).after (sets_of sets q).after true)
+    form_law (Without ks p) lead first later a b ab known e kf kl =
+        let h = less_ok lead ks p e in
+        let sp = subst (Shape (Spells p) (is kind (sets_of sets p).first)) (not_true (sets_of sets p).blank h.0) (form_shape lead (λ i l. shape i (known i l)) p h.2) in
+        without_law (is kind ks) (Spells p) (form_shape lead (λ i l. shape i (known i l)) (Without ks p) e).word (sp.some refl) (form_law p lead first later a b ab known h.2 kf kl)

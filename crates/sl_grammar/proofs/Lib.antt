@@ -8,6 +8,11 @@ pub mod Pieces
 pub mod Many
 pub mod Guarded
 pub mod Steps
+-- the readers that repeat are loops whose state grows (`many_grown`, `steps_grown`, `chain_grown`), and how such a loop goes on
+pub mod Growing
+pub mod Gated
+pub mod Ahead
+pub mod Without
 -- a form that passes its test is read (`form_law`)
 pub mod Grammar
 -- two readers that obey the law find the same
@@ -17,5 +22,7 @@ pub mod Unique
 pub mod Rules
 -- what a refused token is: too deep, or wrong (`refusal`)
 pub mod Front
+-- a group between two brackets that match is read (`group_shape`, `group_law`)
+pub mod Groups
 -- the example is read
 pub mod Sums

@@ -1,18 +1,18 @@
 -- A grammar whose rules pass the test is read.
-use Rattle.std.proofs.Common.{append-nil, ◌≡◌, ℕ, zero, suc, ◌<◌, ◌≤◌, List, [], ◌∷◌, ◌++◌, length, refl, sym, subst, inl, inr, Bool, true, false, if◌then◌else◌, arith}
+use Rattle.std.proofs.Common.{◌≡◌, ℕ, zero, suc, ◌<◌, ◌≤◌, List, [], ◌∷◌, length, refl, sym, subst, inl, inr, Bool, true, false, if◌then◌else◌, arith}
 use Rattle.std.specs.Prelude.{ltb, max}
 use Rattle.std.proofs.lemmas.Bool.{ltb-true}
 use Rattle.std.proofs.Math.Nat.{le-max_left, le-max_right}
 use Rattle.sl_grammar.specs.Phrase.{Found, IsRead}
 use Rattle.sl_grammar.specs.Law.{Word, Law, Seen, Shape, found_as}
 use Rattle.sl_grammar.specs.Many.{spells_many}
-use Rattle.sl_grammar.specs.Grammar.{Form, Token, Nothing, Ref, Then, Either, Room, Many, has, disjoint, subset, and, not, sets_of, ok, is, Val, spells_form, read_form, Chain, chain_room, step_on}
+use Rattle.sl_grammar.specs.Grammar.{Form, Token, Nothing, Ref, Then, Either, Room, Many, has, subset, and, sets_of, ok, is, Val, spells_form, read_form, Chain, Gate, chain_room, step_on, has_word, Ahead, Without}
 use Rattle.sl_grammar.specs.Steps.{spells_steps}
-use Rattle.sl_grammar.specs.Rules.{Names, has_word, same, lead, lower, good, spells_in, Spells, Readers, none_own, read_rank, read_at}
+use Rattle.sl_grammar.specs.Rules.{Names, same, lead, lower, good, spells_in, Spells, Readers, none_own, read_rank, read_at}
 use Rattle.sl_grammar.proofs.Laws.{seen_law}
 use Rattle.sl_grammar.proofs.Unique.{same_read}
 use Rattle.sl_grammar.proofs.Pieces.{seen_shape, weaker_law, empty_law}
-use Rattle.sl_grammar.proofs.Grammar.{and_left, and_right, parts, by_blank, subset_sound, same_shape, form_shape, form_law}
+use Rattle.sl_grammar.proofs.Grammar.{and_left, and_right, parts, subset_sound, same_shape, form_word, form_shape, form_law}
 
 pub more_steps : {K Q S : Type 0} (link link' : Q → List K → Type 0) (room : S → Bool) (step : S → Q → S) → ((q : Q) (us : List K) → link q us → link' q us) → (s : S) (qs : List Q) (ts : List K) → spells_steps link room step s qs ts → spells_steps link' room step s qs ts
 more_steps link link' room step h s [] ts w = w
@@ -31,11 +31,16 @@ module _ {K N : Type 0} (kind : K → ℕ) (T : N → Type 0) (room : (i j : N) 
     raise (Room c p q) (inl x) ts w = (w.0, raise p x ts w.1)
     raise (Room c p q) (inr y) ts w = raise q y ts w
     raise (Chain c i j) v ts (a, b, e, u, w) = (a, b, e, h i v.0 a u, more_steps (s j) (s' j) (chain_room kind T room c i j) step_on (λ q us z. h j q us z) (v.0, []) v.1 b w)
+    raise (Gate i p q) (x, inl y) ts (a, b, e, u, w) = (a, b, e, h i x a u, (w.0, raise p y b w.1))
+    raise (Gate i p q) (x, inr y) ts (a, b, e, u, w) = (a, b, e, h i x a u, raise q y b w)
     raise (Many p) v ts w = each v ts w (raise p)
       where
         each : (v : List (Val kind T p)) (ts : List K) → spells_many (spells_form kind T room s p) v ts → ((x : Val kind T p) (ts : List K) → spells_form kind T room s p x ts → spells_form kind T room s' p x ts) → spells_many (spells_form kind T room s' p) v ts
         each [] ts w f = w
         each (x ∷ xs) ts (a, b, e, u, w) f = (a, b, e, f x a u, each xs b w f)
+    raise (Ahead ks js p q) (inl x) ts (a, b, e, u, w) = (a, b, e, u, raise p x.1 b w)
+    raise (Ahead ks js p q) (inr y) ts w = (w.0, raise q y ts w.1)
+    raise (Without ks p) v ts w = (w.0, raise p v ts w.1)
 
   -- a family that grows with a number
   module _ (s : ℕ → (i : N) → T i → List K → Type 0) (grows : (m n : ℕ) → m ≤ n → (i : N) (t : T i) (ts : List K) → s m i t ts → s n i t ts) where
@@ -70,6 +75,12 @@ module _ {K N : Type 0} (kind : K → ℕ) (T : N → Type 0) (room : (i j : N) 
         links x (q ∷ qs) us (r, a, b, e, (m, y), w) =
             let (n, z) = links (step_on x q) qs b w in
             (max m n, (r, a, b, e, grows m (max m n) (le-max_left m n) j q a y, later n (max m n) (le-max_right m n) (step_on x q) qs b z))
+    gather (Gate i p q) (x, inl y) ts (a, b, e, (m, u), w) =
+        let (n, z) = gather p y b w.1 in
+        (max m n, (a, b, e, grows m (max m n) (le-max_left m n) i x a u, (w.0, lift n (max m n) (le-max_right m n) p y b z)))
+    gather (Gate i p q) (x, inr y) ts (a, b, e, (m, u), w) =
+        let (n, z) = gather q y b w in
+        (max m n, (a, b, e, grows m (max m n) (le-max_left m n) i x a u, lift n (max m n) (le-max_right m n) q y b z))
     gather (Many p) v ts w = each v ts w (gather p)
       where
         raised : (m n : ℕ) → m ≤ n → (v : List (Val kind T p)) (ts : List K) → spells_many (spells_form kind T room (s m) p) v ts → spells_many (spells_form kind T room (s n) p) v ts
@@ -81,6 +92,9 @@ module _ {K N : Type 0} (kind : K → ℕ) (T : N → Type 0) (room : (i j : N) 
             let (m, y) = f x a u in
             let (n, z) = each xs b w f in
             (max m n, (a, b, e, lift m (max m n) (le-max_left m n) p x a y, raised n (max m n) (le-max_right m n) xs b z))
+    gather (Ahead ks js p q) (inl x) ts (a, b, e, u, w) = let (n, y) = gather p x.1 b w in (n, (a, b, e, u, y))
+    gather (Ahead ks js p q) (inr y) ts w = let (n, x) = gather q y ts w.1 in (n, (w.0, x))
+    gather (Without ks p) v ts w = let (n, x) = gather p v ts w.1 in (n, (w.0, x))
 
 module _ {K N : Type 0} (kind : K → ℕ) (sample : ℕ → K) (names : Names N) (T : N → Type 0) (room : (i j : N) → T i → List (T j) → Bool) (tree : (i : N) → Val kind T (names.rule i) → T i) where
   abbrev In : ℕ → (i : N) → T i → List K → Type 0
@@ -108,40 +122,6 @@ module _ {K N : Type 0} (kind : K → ℕ) (sample : ℕ → K) (names : Names N
 module _ {K N : Type 0} (kind : K → ℕ) (sample : ℕ → K) (names : Names N) (T : N → Type 0) (room : (i j : N) → T i → List (T j) → Bool) (tree : (i : N) → Val kind T (names.rule i) → T i) (spells : (i : N) → T i → List K → Type 0) where
   abbrev Passes : (N → Bool) → Form N → Type 0
   Passes first g = ok kind sample names.sets names.valid first g ≡ true
-
-  -- a form has a word, where the names that it needs have one
-  form_word : (known : N → Bool) → ((i : N) → known i ≡ true → Word (spells i)) → (g : Form N) (first : N → Bool) → Passes first g → has_word known g ≡ true → Word (spells_form kind T room spells g)
-  form_word known word (Token []) first e h = absurd cc
-  form_word known word (Token (k ∷ ks)) first e h = (sample k, sample k ∷ [], (refl, rw e))
-  form_word known word Nothing first e h = (tt, [], refl)
-  form_word known word (Ref i) first e h = word i h
-  form_word known word (Then p q) first e h =
-      let b = (sets_of names.sets p).blank in
-      let c = ok kind sample names.sets names.valid first q in
-      let d = ok kind sample names.sets names.valid names.valid q in
-      let f = and_right _ (and (ok kind sample names.sets names.valid first p) (if b then c else d)) e in
-      let (x, u, w) = form_word known word p first (and_left (ok kind sample names.sets names.valid first p) (if b then c else d) f) (and_left (has_word known p) (has_word known q) h) in
-      let (y, v, z) = by_blank b c d (and_right (ok kind sample names.sets names.valid first p) (if b then c else d) f) (λ g. form_word known word q first g (and_right (has_word known p) (has_word known q) h)) (λ g. form_word known word q names.valid g (and_right (has_word known p) (has_word known q) h)) in
-      ((x, y), u ++ v, (u, v, refl, w, z))
-  form_word known word (Either p q) first e h =
-      by (has_word known p) refl h
-      (λ g. form_word known word p first (and_left (ok kind sample names.sets names.valid first p) (ok kind sample names.sets names.valid first q) both) g)
-      (λ g. form_word known word q first (and_right (ok kind sample names.sets names.valid first p) (ok kind sample names.sets names.valid first q) both) g)
-    where
-      both : and (ok kind sample names.sets names.valid first p) (ok kind sample names.sets names.valid first q) ≡ true
-      both =
-          let d = disjoint (sets_of names.sets p).first (sets_of names.sets q).first in
-          let c = and (ok kind sample names.sets names.valid first p) (ok kind sample names.sets names.valid first q) in
-          and_right d c (and_right (not (sets_of names.sets p).blank) (and d c) e)
-
-      by : (b : Bool) → has_word known p ≡ b → (if b then true else has_word known q) ≡ true → (has_word known p ≡ true → Word (spells_form kind T room spells p)) → (has_word known q ≡ true → Word (spells_form kind T room spells q)) → Word (spells_form kind T room spells (Either p q))
-      by true g h f f' = let (x, a, w) = f g in (inl x, a, w)
-      by false g h f f' = let (x, a, w) = f' h in (inr x, a, w)
-  form_word known word (Room c p q) first e h =
-      let (y, b, v) = form_word known word q first (and_right _ (ok kind sample names.sets names.valid first q) (and_right _ _ e)) h in
-      (inr y, b, v)
-  form_word known word (Many p) first e h = ([], [], refl)
-  form_word known word (Chain c i j) first e h = let (x, a, w) = word i h in ((x, []), a, (a, [], sym (append-nil a), w, refl))
 
   agree : (a b : Bool) → (a ≡ true → b ≡ true) → (b ≡ true → a ≡ true) → a ≡ b
   agree true b f g = sym (f refl)
@@ -202,7 +182,7 @@ module _ {K N : Type 0} (kind : K → ℕ) (sample : ℕ → K) (names : Names N
         by true o less = (own i v o).word less
         by false o less =
             let t = tested i (check i v o) in
-            let (x, a, w) = form_word (lower kind sample names i) less (names.rule i) (lead kind sample names i) t.passed t.worded in
+            let (x, a, w) = form_word kind sample T room spells names.sets names.valid (lower kind sample names i) less (names.rule i) (lead kind sample names i) t.passed t.worded in
             (tree i x, a, (seen i v o).to x a w)
 
     word : (i : N) → names.valid i ≡ true → Word (spells i)

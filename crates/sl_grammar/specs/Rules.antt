@@ -2,18 +2,7 @@
 use Rattle.std.specs.Prelude.{◌≡◌, ℕ, zero, suc, List, Bool, true, false, if◌then◌else◌, ltb}
 use Rattle.sl_grammar.specs.Phrase.{Found, Stopped}
 use Rattle.sl_grammar.specs.Law.{found_as}
-use Rattle.sl_grammar.specs.Grammar.{Form, Token, Nothing, Ref, Then, Either, Room, Many, Chain, Sets, subset, and, sets_of, ok, Val, spells_form, read_form}
-
--- a form has a word that names none but these
-abbrev pub has_word : {N : Type 0} → (N → Bool) → Form N → Bool
-has_word known (Token ks) = true
-has_word known Nothing = true
-has_word known (Ref i) = known i
-has_word known (Then p q) = and (has_word known p) (has_word known q)
-has_word known (Either p q) = if has_word known p then true else has_word known q
-has_word known (Room c p q) = has_word known q
-has_word known (Many p) = true
-has_word known (Chain c i j) = known i
+use Rattle.sl_grammar.specs.Grammar.{Form, Sets, subset, and, sets_of, has_word, ok, Val, spells_form, read_form}
 
 -- the names of a grammar: the form of each, and of each name the kinds that begin it and that may go on after it, how many names may
 -- stand first in it one in another, and how high its lowest tree is; `valid` leaves out names that no rule in use needs, and `own` tells
