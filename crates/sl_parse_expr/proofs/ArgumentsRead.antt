@@ -16,9 +16,12 @@ use Rattle.sl_tree.specs.declared.tree.Field.{Field}
 use Rattle.sl_tree.proofs.Spans.{Solid}
 use Rattle.sl_tree.proofs.Trees.{expr_solid}
 use Rattle.sl_parse_expr.specs.Names.{Expression, Arguments, Levels, open_to}
-use Rattle.sl_parse_expr.specs.Values.{Tall, FieldParts, ArgumentsParts, name_text, seconds, firsts, deepest, more_fields}
+use Rattle.sl_parse_expr.specs.Values.{Tall, FieldParts, ArgumentsParts, name_text, firsts, deepest, more_fields, more_values, apply_to}
 use Rattle.sl_parse_expr.specs.Grammar.{read, spells_at, expression_kinds}
 use Rattle.sl_parse_expr.specs.Told.{head_sort, reads, values_form, named_form, more_fields_form, fields_form, field_view}
+use Rattle.sl_parse_expr.specs.declared.build.Arguments.{Arguments as Argued}
+use Rattle.sl_parse_expr.specs.declared.build.Arguments.TheVariants as arguments
+use Rattle.sl_parse_expr.specs.Applied.{values_seen, more_fields_seen, fields_seen, arguments_seen, applied}
 use Rattle.sl_parse_expr.proofs.Laws as laws
 use Rattle.sl_parse_expr.proofs.AllSeen.{all_seen}
 use Rattle.sl_parse_expr.proofs.Telling.{Shrinks, Keeps, token_shrinks, shrinks_keeps, read_keeps, both_shrinks, as_done, as_stopped, both_go, both_first, both_done, both_second, then_go, then_first, either_left, either_right, room_left, room_right, room_shut, token_stops}
@@ -67,136 +70,125 @@ field_shrinks r o =
 
 -- values behind the first one
 
-module _ {A : Type 0} (all_values : List Expr → A) where
-  abbrev pub values_seen : Tall Expr → List (Spelled × Tall Expr) × Spelled → A × (ℕ × Span)
-  values_seen x (more, j) = (all_values (firsts (x ∷ seconds more)), (deepest (x ∷ seconds more), j.span))
+abbrev second : Spelled × Tall Expr → Tall Expr
+second x = x.1
 
-  abbrev second : Spelled × Tall Expr → Tall Expr
-  second x = x.1
+unfoldable pub values_from : Levels → List Expr × ℕ → List Spelled → Found Spelled (Argued × (ℕ × Span))
+values_from r p ts = rows_from (comma ∷ []) (right_parenthesis ∷ []) (next (read r Expression)) second arguments.Values p ts
 
-  unfoldable pub values_from : Levels → List Expr × ℕ → List Spelled → Found Spelled (A × (ℕ × Span))
-  values_from r p ts = rows_from (comma ∷ []) (right_parenthesis ∷ []) (next (read r Expression)) second all_values p ts
+pub values_begins : (r : Levels) (ts : List Spelled) (x : Expr) (n : ℕ) (all : List Expr) → all ≡ x ∷ [] → found_as (values_seen (x, n)) (reads (values_form r) ts) ≡ values_from r (all, n) ts
+unfolding reads values_from
+values_begins r ts x n all s =
+    rows_begin (comma ∷ []) (right_parenthesis ∷ []) (next (read r Expression)) second arguments.Values x n ts
+    ∙ ap (λ all. rows_from (comma ∷ []) (right_parenthesis ∷ []) (next (read r Expression)) second arguments.Values (all, n) ts) (sym s)
 
-  pub values_begins : (r : Levels) (ts : List Spelled) (x : Expr) (n : ℕ) (all : List Expr) → all ≡ x ∷ [] → found_as (values_seen (x, n)) (reads (values_form r) ts) ≡ values_from r (all, n) ts
-  unfolding reads values_from
-  values_begins r ts x n all s =
-      rows_begin (comma ∷ []) (right_parenthesis ∷ []) (next (read r Expression)) second all_values x n ts
-      ∙ ap (λ all. rows_from (comma ∷ []) (right_parenthesis ∷ []) (next (read r Expression)) second all_values (all, n) ts) (sym s)
+-- a comma comes, and no whole value is behind it
+pub values_stops : (r : Levels) (p : List Expr × ℕ) (ts more rest : List Spelled) (d : Spelled) → has (comma ∷ []) (head_sort ts) ≡ true → read_token (is sort (comma ∷ [])) ts ≡ Done d more
+    → read r Expression more ≡ Stopped rest → values_from r p ts ≡ Stopped rest
+unfolding values_from
+values_stops r p ts more rest d h a b =
+    rows_stops (comma ∷ []) (right_parenthesis ∷ []) (next (read r Expression)) second arguments.Values p ts rest refl h (both_second (read_token (is sort (comma ∷ []))) (read r Expression) ts d more rest a b)
 
-  -- a comma comes, and no whole value is behind it
-  pub values_stops : (r : Levels) (p : List Expr × ℕ) (ts more rest : List Spelled) (d : Spelled) → has (comma ∷ []) (head_sort ts) ≡ true → read_token (is sort (comma ∷ [])) ts ≡ Done d more
-      → read r Expression more ≡ Stopped rest → values_from r p ts ≡ Stopped rest
-  unfolding values_from
-  values_stops r p ts more rest d h a b =
-      rows_stops (comma ∷ []) (right_parenthesis ∷ []) (next (read r Expression)) second all_values p ts rest refl h (both_second (read_token (is sort (comma ∷ []))) (read r Expression) ts d more rest a b)
+-- one more
+pub values_goes : (r : Levels) → open_to r ≡ true → (p : List Expr × ℕ) (ts more rest : List Spelled) (d : Spelled) (x : Expr) (n : ℕ) (all : List Expr) (levels : ℕ) → has (comma ∷ []) (head_sort ts) ≡ true
+    → read_token (is sort (comma ∷ [])) ts ≡ Done d more → read r Expression more ≡ Done (x, n) rest → all ≡ p.0 ++ x ∷ [] → levels ≡ max p.1 n → values_from r p ts ≡ values_from r (all, levels) rest
+unfolding values_from
+values_goes r o p ts more rest d x n all levels h a b e f =
+    rows_goes (comma ∷ []) (right_parenthesis ∷ []) (next (read r Expression)) second arguments.Values
+    (both_shrinks (read_token (is sort (comma ∷ []))) (read r Expression) (token_shrinks (is sort (comma ∷ []))) (expression_keeps r o)) p ts (d, (x, n)) rest x n all levels refl h
+    (both_done (read_token (is sort (comma ∷ []))) (read r Expression) ts d more (x, n) rest a b) refl e f
 
-  -- one more
-  pub values_goes : (r : Levels) → open_to r ≡ true → (p : List Expr × ℕ) (ts more rest : List Spelled) (d : Spelled) (x : Expr) (n : ℕ) (all : List Expr) (levels : ℕ) → has (comma ∷ []) (head_sort ts) ≡ true
-      → read_token (is sort (comma ∷ [])) ts ≡ Done d more → read r Expression more ≡ Done (x, n) rest → all ≡ p.0 ++ x ∷ [] → levels ≡ max p.1 n → values_from r p ts ≡ values_from r (all, levels) rest
-  unfolding values_from
-  values_goes r o p ts more rest d x n all levels h a b e f =
-      rows_goes (comma ∷ []) (right_parenthesis ∷ []) (next (read r Expression)) second all_values
-      (both_shrinks (read_token (is sort (comma ∷ []))) (read r Expression) (token_shrinks (is sort (comma ∷ []))) (expression_keeps r o)) p ts (d, (x, n)) rest x n all levels refl h
-      (both_done (read_token (is sort (comma ∷ []))) (read r Expression) ts d more (x, n) rest a b) refl e f
+-- no comma comes: the parenthesis that closes them, or none
+pub values_ends : (r : Levels) (p : List Expr × ℕ) (ts rest : List Spelled) (k : Spelled) → has (comma ∷ []) (head_sort ts) ≡ false → read_token (is sort (right_parenthesis ∷ [])) ts ≡ Done k rest
+    → values_from r p ts ≡ Done (arguments.Values p.0, (p.1, k.span)) rest
+unfolding values_from
+values_ends r p ts rest k h e = rows_ends (comma ∷ []) (right_parenthesis ∷ []) (next (read r Expression)) second arguments.Values p ts rest k h e
 
-  -- no comma comes: the parenthesis that closes them, or none
-  pub values_ends : (r : Levels) (p : List Expr × ℕ) (ts rest : List Spelled) (k : Spelled) → has (comma ∷ []) (head_sort ts) ≡ false → read_token (is sort (right_parenthesis ∷ [])) ts ≡ Done k rest
-      → values_from r p ts ≡ Done (all_values p.0, (p.1, k.span)) rest
-  unfolding values_from
-  values_ends r p ts rest k h e = rows_ends (comma ∷ []) (right_parenthesis ∷ []) (next (read r Expression)) second all_values p ts rest k h e
-
-  pub values_unclosed : (r : Levels) (p : List Expr × ℕ) (ts rest : List Spelled) → has (comma ∷ []) (head_sort ts) ≡ false → read_token (is sort (right_parenthesis ∷ [])) ts ≡ Stopped rest
-      → values_from r p ts ≡ Stopped rest
-  unfolding values_from
-  values_unclosed r p ts rest h e = rows_unclosed (comma ∷ []) (right_parenthesis ∷ []) (next (read r Expression)) second all_values p ts rest h e
+pub values_unclosed : (r : Levels) (p : List Expr × ℕ) (ts rest : List Spelled) → has (comma ∷ []) (head_sort ts) ≡ false → read_token (is sort (right_parenthesis ∷ [])) ts ≡ Stopped rest
+    → values_from r p ts ≡ Stopped rest
+unfolding values_from
+values_unclosed r p ts rest h e = rows_unclosed (comma ∷ []) (right_parenthesis ∷ []) (next (read r Expression)) second arguments.Values p ts rest h e
 
 -- fields
 
-module _ {A : Type 0} (all_fields : List Field → A) where
-  abbrev pub more_fields_seen : Field → ℕ → List (Spelled × (Spelled × FieldParts)) × Spelled → A × (ℕ × Span)
-  more_fields_seen first n (more, j) = (all_fields (first ∷ more_fields more), (deepest ((first, n) ∷ map (λ x. field_view x.1) more), j.span))
+abbrev field_next : Levels → List Spelled → Found Spelled (Spelled × (Spelled × FieldParts))
+field_next r ts = read_both (read_token (is sort (comma ∷ []))) (reads (named_form r)) ts
 
-  abbrev pub fields_seen : Expr → FieldParts × (List (Spelled × (Spelled × FieldParts)) × Spelled) → A × (ℕ × Span)
-  fields_seen name (v, more) = more_fields_seen (field (name_text name) v.1.0) v.1.1 more
+abbrev field_seen : Spelled × (Spelled × FieldParts) → Tall Field
+field_seen x = field_view x.1
 
-  abbrev field_next : Levels → List Spelled → Found Spelled (Spelled × (Spelled × FieldParts))
-  field_next r ts = read_both (read_token (is sort (comma ∷ []))) (reads (named_form r)) ts
+unfoldable pub fields_from : Levels → List Field × ℕ → List Spelled → Found Spelled (Argued × (ℕ × Span))
+fields_from r p ts = rows_from (comma ∷ []) (right_parenthesis ∷ []) (field_next r) field_seen arguments.Fields p ts
 
-  abbrev field_seen : Spelled × (Spelled × FieldParts) → Tall Field
-  field_seen x = field_view x.1
+-- behind the first one
+pub more_fields_begins : (r : Levels) (ts : List Spelled) (first : Field) (n : ℕ) (all : List Field) → all ≡ first ∷ [] → found_as (more_fields_seen first n) (reads (more_fields_form r) ts) ≡ fields_from r (all, n) ts
+unfolding reads fields_from
+more_fields_begins r ts first n all s =
+    same (read_both (read_list (is sort (comma ∷ [])) (field_next r)) (read_token (is sort (right_parenthesis ∷ []))) ts)
+    ∙ (rows_begin (comma ∷ []) (right_parenthesis ∷ []) (field_next r) field_seen arguments.Fields first n ts
+    ∙ ap (λ all. rows_from (comma ∷ []) (right_parenthesis ∷ []) (field_next r) field_seen arguments.Fields (all, n) ts) (sym s))
+  where
+    firsts_fields : (xs : List (Spelled × (Spelled × FieldParts))) → more_fields xs ≡ firsts (map field_seen xs)
+    firsts_fields [] = refl
+    firsts_fields (x ∷ xs) = ap (λ ys. (field_seen x).0 ∷ ys) (firsts_fields xs)
 
-  unfoldable pub fields_from : Levels → List Field × ℕ → List Spelled → Found Spelled (A × (ℕ × Span))
-  fields_from r p ts = rows_from (comma ∷ []) (right_parenthesis ∷ []) (field_next r) field_seen all_fields p ts
+    same : (f : Found Spelled (List (Spelled × (Spelled × FieldParts)) × Spelled))
+        → found_as (more_fields_seen first n) f ≡ found_as (λ v. (arguments.Fields (first ∷ firsts (map field_seen v.0)), (deepest ((first, n) ∷ map field_seen v.0), v.1.span))) f
+    same (Done v left) = ap (λ ys. Done (arguments.Fields (first ∷ ys), (deepest ((first, n) ∷ map field_seen v.0), v.1.span)) left) (firsts_fields v.0)
+    same (Stopped left) = refl
 
-  -- behind the first one
-  pub more_fields_begins : (r : Levels) (ts : List Spelled) (first : Field) (n : ℕ) (all : List Field) → all ≡ first ∷ [] → found_as (more_fields_seen first n) (reads (more_fields_form r) ts) ≡ fields_from r (all, n) ts
-  unfolding reads fields_from
-  more_fields_begins r ts first n all s =
-      same (read_both (read_list (is sort (comma ∷ [])) (field_next r)) (read_token (is sort (right_parenthesis ∷ []))) ts)
-      ∙ (rows_begin (comma ∷ []) (right_parenthesis ∷ []) (field_next r) field_seen all_fields first n ts
-      ∙ ap (λ all. rows_from (comma ∷ []) (right_parenthesis ∷ []) (field_next r) field_seen all_fields (all, n) ts) (sym s))
-    where
-      firsts_fields : (xs : List (Spelled × (Spelled × FieldParts))) → more_fields xs ≡ firsts (map field_seen xs)
-      firsts_fields [] = refl
-      firsts_fields (x ∷ xs) = ap (λ ys. (field_seen x).0 ∷ ys) (firsts_fields xs)
+-- a comma comes, and no whole field is behind it
+pub fields_stops : (r : Levels) (p : List Field × ℕ) (ts more rest : List Spelled) (d : Spelled) → has (comma ∷ []) (head_sort ts) ≡ true → read_token (is sort (comma ∷ [])) ts ≡ Done d more
+    → found_as field_view (reads (named_form r) more) ≡ Stopped rest → fields_from r p ts ≡ Stopped rest
+unfolding fields_from
+fields_stops r p ts more rest d h a b =
+    rows_stops (comma ∷ []) (right_parenthesis ∷ []) (field_next r) field_seen arguments.Fields p ts rest refl h
+    (both_second (read_token (is sort (comma ∷ []))) (reads (named_form r)) ts d more rest a (as_stopped field_view (reads (named_form r) more) rest b))
 
-      same : (f : Found Spelled (List (Spelled × (Spelled × FieldParts)) × Spelled))
-          → found_as (more_fields_seen first n) f ≡ found_as (λ v. (all_fields (first ∷ firsts (map field_seen v.0)), (deepest ((first, n) ∷ map field_seen v.0), v.1.span))) f
-      same (Done v left) = ap (λ ys. Done (all_fields (first ∷ ys), (deepest ((first, n) ∷ map field_seen v.0), v.1.span)) left) (firsts_fields v.0)
-      same (Stopped left) = refl
+-- one more
+pub fields_goes : (r : Levels) → open_to r ≡ true → (p : List Field × ℕ) (ts more rest : List Spelled) (d : Spelled) (x : Field) (n : ℕ) (all : List Field) (levels : ℕ) → has (comma ∷ []) (head_sort ts) ≡ true
+    → read_token (is sort (comma ∷ [])) ts ≡ Done d more → found_as field_view (reads (named_form r) more) ≡ Done (x, n) rest → all ≡ p.0 ++ x ∷ [] → levels ≡ max p.1 n
+    → fields_from r p ts ≡ fields_from r (all, levels) rest
+unfolding fields_from
+fields_goes r o p ts more rest d x n all levels h a b e f =
+    let w = as_done field_view (reads (named_form r) more) (x, n) rest b in
+    rows_goes (comma ∷ []) (right_parenthesis ∷ []) (field_next r) field_seen arguments.Fields
+    (both_shrinks (read_token (is sort (comma ∷ []))) (reads (named_form r)) (token_shrinks (is sort (comma ∷ []))) (shrinks_keeps (reads (named_form r)) (field_shrinks r o))) p ts (d, w.0) rest x n all levels refl h
+    (both_done (read_token (is sort (comma ∷ []))) (reads (named_form r)) ts d more w.0 rest a w.1) w.2 e f
 
-  -- a comma comes, and no whole field is behind it
-  pub fields_stops : (r : Levels) (p : List Field × ℕ) (ts more rest : List Spelled) (d : Spelled) → has (comma ∷ []) (head_sort ts) ≡ true → read_token (is sort (comma ∷ [])) ts ≡ Done d more
-      → found_as field_view (reads (named_form r) more) ≡ Stopped rest → fields_from r p ts ≡ Stopped rest
-  unfolding fields_from
-  fields_stops r p ts more rest d h a b =
-      rows_stops (comma ∷ []) (right_parenthesis ∷ []) (field_next r) field_seen all_fields p ts rest refl h
-      (both_second (read_token (is sort (comma ∷ []))) (reads (named_form r)) ts d more rest a (as_stopped field_view (reads (named_form r) more) rest b))
+-- no comma comes: the parenthesis that closes them, or none
+pub fields_ends : (r : Levels) (p : List Field × ℕ) (ts rest : List Spelled) (k : Spelled) → has (comma ∷ []) (head_sort ts) ≡ false → read_token (is sort (right_parenthesis ∷ [])) ts ≡ Done k rest
+    → fields_from r p ts ≡ Done (arguments.Fields p.0, (p.1, k.span)) rest
+unfolding fields_from
+fields_ends r p ts rest k h e = rows_ends (comma ∷ []) (right_parenthesis ∷ []) (field_next r) field_seen arguments.Fields p ts rest k h e
 
-  -- one more
-  pub fields_goes : (r : Levels) → open_to r ≡ true → (p : List Field × ℕ) (ts more rest : List Spelled) (d : Spelled) (x : Field) (n : ℕ) (all : List Field) (levels : ℕ) → has (comma ∷ []) (head_sort ts) ≡ true
-      → read_token (is sort (comma ∷ [])) ts ≡ Done d more → found_as field_view (reads (named_form r) more) ≡ Done (x, n) rest → all ≡ p.0 ++ x ∷ [] → levels ≡ max p.1 n
-      → fields_from r p ts ≡ fields_from r (all, levels) rest
-  unfolding fields_from
-  fields_goes r o p ts more rest d x n all levels h a b e f =
-      let w = as_done field_view (reads (named_form r) more) (x, n) rest b in
-      rows_goes (comma ∷ []) (right_parenthesis ∷ []) (field_next r) field_seen all_fields
-      (both_shrinks (read_token (is sort (comma ∷ []))) (reads (named_form r)) (token_shrinks (is sort (comma ∷ []))) (shrinks_keeps (reads (named_form r)) (field_shrinks r o))) p ts (d, w.0) rest x n all levels refl h
-      (both_done (read_token (is sort (comma ∷ []))) (reads (named_form r)) ts d more w.0 rest a w.1) w.2 e f
+pub fields_unclosed : (r : Levels) (p : List Field × ℕ) (ts rest : List Spelled) → has (comma ∷ []) (head_sort ts) ≡ false → read_token (is sort (right_parenthesis ∷ [])) ts ≡ Stopped rest
+    → fields_from r p ts ≡ Stopped rest
+unfolding fields_from
+fields_unclosed r p ts rest h e = rows_unclosed (comma ∷ []) (right_parenthesis ∷ []) (field_next r) field_seen arguments.Fields p ts rest h e
 
-  -- no comma comes: the parenthesis that closes them, or none
-  pub fields_ends : (r : Levels) (p : List Field × ℕ) (ts rest : List Spelled) (k : Spelled) → has (comma ∷ []) (head_sort ts) ≡ false → read_token (is sort (right_parenthesis ∷ [])) ts ≡ Done k rest
-      → fields_from r p ts ≡ Done (all_fields p.0, (p.1, k.span)) rest
-  unfolding fields_from
-  fields_ends r p ts rest k h e = rows_ends (comma ∷ []) (right_parenthesis ∷ []) (field_next r) field_seen all_fields p ts rest k h e
+-- the first, from the `=` behind its name on: there is none
+pub fields_halts : (r : Levels) (ts rest : List Spelled) (name : Expr) → read_token (is sort (equals ∷ [])) ts ≡ Stopped rest → found_as (fields_seen name) (reads (fields_form r) ts) ≡ Stopped rest
+unfolding reads
+fields_halts r ts rest name e =
+    ap (found_as (fields_seen name)) (both_first (read_field r) (reads (more_fields_form r)) ts rest (both_first (read_token (is sort (equals ∷ []))) (read r Expression) ts rest e))
 
-  pub fields_unclosed : (r : Levels) (p : List Field × ℕ) (ts rest : List Spelled) → has (comma ∷ []) (head_sort ts) ≡ false → read_token (is sort (right_parenthesis ∷ [])) ts ≡ Stopped rest
-      → fields_from r p ts ≡ Stopped rest
-  unfolding fields_from
-  fields_unclosed r p ts rest h e = rows_unclosed (comma ∷ []) (right_parenthesis ∷ []) (field_next r) field_seen all_fields p ts rest h e
+-- no whole value is behind it
+pub fields_second : (r : Levels) (ts more rest : List Spelled) (s : Spelled) (name : Expr) → read_token (is sort (equals ∷ [])) ts ≡ Done s more → read r Expression more ≡ Stopped rest
+    → found_as (fields_seen name) (reads (fields_form r) ts) ≡ Stopped rest
+unfolding reads
+fields_second r ts more rest s name e d =
+    ap (found_as (fields_seen name)) (both_first (read_field r) (reads (more_fields_form r)) ts rest (both_second (read_token (is sort (equals ∷ []))) (read r Expression) ts s more rest e d))
 
-  -- the first, from the `=` behind its name on: there is none
-  pub fields_halts : (r : Levels) (ts rest : List Spelled) (name : Expr) → read_token (is sort (equals ∷ [])) ts ≡ Stopped rest → found_as (fields_seen name) (reads (fields_form r) ts) ≡ Stopped rest
-  unfolding reads
-  fields_halts r ts rest name e =
-      ap (found_as (fields_seen name)) (both_first (read_field r) (reads (more_fields_form r)) ts rest (both_first (read_token (is sort (equals ∷ []))) (read r Expression) ts rest e))
-
-  -- no whole value is behind it
-  pub fields_second : (r : Levels) (ts more rest : List Spelled) (s : Spelled) (name : Expr) → read_token (is sort (equals ∷ [])) ts ≡ Done s more → read r Expression more ≡ Stopped rest
-      → found_as (fields_seen name) (reads (fields_form r) ts) ≡ Stopped rest
-  unfolding reads
-  fields_second r ts more rest s name e d =
-      ap (found_as (fields_seen name)) (both_first (read_field r) (reads (more_fields_form r)) ts rest (both_second (read_token (is sort (equals ∷ []))) (read r Expression) ts s more rest e d))
-
-  -- and others go on behind it
-  pub fields_go : (r : Levels) (ts more rest : List Spelled) (s : Spelled) (name x : Expr) (n : ℕ) (first : Field) → read_token (is sort (equals ∷ [])) ts ≡ Done s more → read r Expression more ≡ Done (x, n) rest
-      → first ≡ field (name_text name) x → found_as (fields_seen name) (reads (fields_form r) ts) ≡ found_as (more_fields_seen first n) (reads (more_fields_form r) rest)
-  unfolding reads
-  fields_go r ts more rest s name x n first e d w =
-      let pair : List (Spelled × (Spelled × FieldParts)) × Spelled → FieldParts × (List (Spelled × (Spelled × FieldParts)) × Spelled) = λ y. ((s, (x, n)), y) in
-      ap (found_as (fields_seen name)) (both_go (read_field r) (reads (more_fields_form r)) ts (s, (x, n)) rest (both_done (read_token (is sort (equals ∷ []))) (read r Expression) ts s more (x, n) rest e d))
-      ∙ (found_as_as (fields_seen name) pair (reads (more_fields_form r) rest)
-      ∙ ap (λ first. found_as (more_fields_seen first n) (reads (more_fields_form r) rest)) (sym w))
+-- and others go on behind it
+pub fields_go : (r : Levels) (ts more rest : List Spelled) (s : Spelled) (name x : Expr) (n : ℕ) (first : Field) → read_token (is sort (equals ∷ [])) ts ≡ Done s more → read r Expression more ≡ Done (x, n) rest
+    → first ≡ field (name_text name) x → found_as (fields_seen name) (reads (fields_form r) ts) ≡ found_as (more_fields_seen first n) (reads (more_fields_form r) rest)
+unfolding reads
+fields_go r ts more rest s name x n first e d w =
+    let pair : List (Spelled × (Spelled × FieldParts)) × Spelled → FieldParts × (List (Spelled × (Spelled × FieldParts)) × Spelled) = λ y. ((s, (x, n)), y) in
+    ap (found_as (fields_seen name)) (both_go (read_field r) (reads (more_fields_form r)) ts (s, (x, n)) rest (both_done (read_token (is sort (equals ∷ []))) (read r Expression) ts s more (x, n) rest e d))
+    ∙ (found_as_as (fields_seen name) pair (reads (more_fields_form r) rest)
+    ∙ ap (λ first. found_as (more_fields_seen first n) (reads (more_fields_form r) rest)) (sym w))
 
 -- arguments: an expression and what is behind it, or the parenthesis at once
 
@@ -284,62 +276,72 @@ closes j h = by (eqb right_parenthesis j) refl h
     by true e h = eqb-true right_parenthesis j e
     by false e h = absurd cc
 
-module _ {A : Type 0} (all_values : List Expr → A) (all_fields : List Field → A) where
-  abbrev pub arguments_seen : ArgumentsParts → A × (ℕ × Span)
-  arguments_seen (inl (e, inl v)) = fields_seen all_fields e.0 v
-  arguments_seen (inl (e, inr v)) = values_seen all_values e v
-  arguments_seen (inr j) = (all_values [], (0, j.span))
+-- the parenthesis comes at once
+pub arguments_none : (r : Levels) → open_to r ≡ true → (ts rest : List Spelled) (k : Spelled) → has (right_parenthesis ∷ []) (head_sort ts) ≡ true → read_token (is sort (right_parenthesis ∷ [])) ts ≡ Done k rest
+    → found_as arguments_seen (read r Arguments ts) ≡ Done (arguments.Values [], (0, k.span)) rest
+arguments_none r o ts rest k h e =
+    let other : has (expression_kinds r) (head_sort ts) ≡ false = subst (λ j. has (expression_kinds r) j ≡ false) (closes (head_sort ts) h) (no_close r) in
+    ap (found_as arguments_seen) (arguments_rule r o ts ∙ (either_right (expression_kinds r) (read_some r) read_close ts other ∙ ap (found_as inr) e))
 
-  -- the parenthesis comes at once
-  pub arguments_none : (r : Levels) → open_to r ≡ true → (ts rest : List Spelled) (k : Spelled) → has (right_parenthesis ∷ []) (head_sort ts) ≡ true → read_token (is sort (right_parenthesis ∷ [])) ts ≡ Done k rest
-      → found_as arguments_seen (read r Arguments ts) ≡ Done (all_values [], (0, k.span)) rest
-  arguments_none r o ts rest k h e =
-      let other : has (expression_kinds r) (head_sort ts) ≡ false = subst (λ j. has (expression_kinds r) j ≡ false) (closes (head_sort ts) h) (no_close r) in
-      ap (found_as arguments_seen) (arguments_rule r o ts ∙ (either_right (expression_kinds r) (read_some r) read_close ts other ∙ ap (found_as inr) e))
+-- it doesn't, and no whole expression comes
+pub arguments_halts : (r : Levels) → open_to r ≡ true → (ts rest : List Spelled) → has (right_parenthesis ∷ []) (head_sort ts) ≡ false → read r Expression ts ≡ Stopped rest
+    → found_as arguments_seen (read r Arguments ts) ≡ Stopped rest
+arguments_halts r o ts rest h e = ap (found_as arguments_seen) (arguments_rule r o ts ∙ by (has (expression_kinds r) (head_sort ts)) refl)
+  where
+    by : (b : Bool) → has (expression_kinds r) (head_sort ts) ≡ b → read_either (is sort (expression_kinds r)) (read_some r) read_close ts ≡ Stopped rest
+    by true g = either_left (expression_kinds r) (read_some r) read_close ts (no_kind r) g ∙ ap (found_as inl) (then_first (read r Expression) (read_rest r) ts rest e)
+    by false g =
+        either_right (expression_kinds r) (read_some r) read_close ts g
+        ∙ (ap (found_as inr) (token_stops (right_parenthesis ∷ []) ts h) ∙ ap Stopped (ap left_of (sym (expression_stops r o ts h g) ∙ e)))
 
-  -- it doesn't, and no whole expression comes
-  pub arguments_halts : (r : Levels) → open_to r ≡ true → (ts rest : List Spelled) → has (right_parenthesis ∷ []) (head_sort ts) ≡ false → read r Expression ts ≡ Stopped rest
-      → found_as arguments_seen (read r Arguments ts) ≡ Stopped rest
-  arguments_halts r o ts rest h e = ap (found_as arguments_seen) (arguments_rule r o ts ∙ by (has (expression_kinds r) (head_sort ts)) refl)
-    where
-      by : (b : Bool) → has (expression_kinds r) (head_sort ts) ≡ b → read_either (is sort (expression_kinds r)) (read_some r) read_close ts ≡ Stopped rest
-      by true g = either_left (expression_kinds r) (read_some r) read_close ts (no_kind r) g ∙ ap (found_as inl) (then_first (read r Expression) (read_rest r) ts rest e)
-      by false g =
-          either_right (expression_kinds r) (read_some r) read_close ts g
-          ∙ (ap (found_as inr) (token_stops (right_parenthesis ∷ []) ts h) ∙ ap Stopped (ap left_of (sym (expression_stops r o ts h g) ∙ e)))
+rest_goes : (r : Levels) → open_to r ≡ true → (ts rest : List Spelled) (x : Tall Expr) → has (right_parenthesis ∷ []) (head_sort ts) ≡ false → read r Expression ts ≡ Done x rest
+    → found_as arguments_seen (read r Arguments ts) ≡ found_as (λ v. arguments_seen (inl (x, v))) (read_rest r x rest)
+rest_goes r o ts rest x h e =
+    let pair : Some_parts → Tall Expr × Some_parts = λ v. (x, v) in
+    ap (found_as arguments_seen) (arguments_rule r o ts ∙ (either_left (expression_kinds r) (read_some r) read_close ts (no_kind r) (expression_begins r o ts rest x h e)
+    ∙ ap (found_as inl) (then_go (read r Expression) (read_rest r) ts x rest e)))
+    ∙ seen (read_rest r x rest)
+  where
+    seen : (f : Found Spelled Some_parts) → found_as arguments_seen (found_as inl (found_as (λ v. (x, v)) f)) ≡ found_as (λ v. arguments_seen (inl (x, v))) f
+    seen (Done v left) = refl
+    seen (Stopped left) = refl
 
-  rest_goes : (r : Levels) → open_to r ≡ true → (ts rest : List Spelled) (x : Tall Expr) → has (right_parenthesis ∷ []) (head_sort ts) ≡ false → read r Expression ts ≡ Done x rest
-      → found_as arguments_seen (read r Arguments ts) ≡ found_as (λ v. arguments_seen (inl (x, v))) (read_rest r x rest)
-  rest_goes r o ts rest x h e =
-      let pair : Some_parts → Tall Expr × Some_parts = λ v. (x, v) in
-      ap (found_as arguments_seen) (arguments_rule r o ts ∙ (either_left (expression_kinds r) (read_some r) read_close ts (no_kind r) (expression_begins r o ts rest x h e)
-      ∙ ap (found_as inl) (then_go (read r Expression) (read_rest r) ts x rest e)))
-      ∙ seen (read_rest r x rest)
-    where
-      seen : (f : Found Spelled Some_parts) → found_as arguments_seen (found_as inl (found_as (λ v. (x, v)) f)) ≡ found_as (λ v. arguments_seen (inl (x, v))) f
-      seen (Done v left) = refl
-      seen (Stopped left) = refl
+-- a name is read, and `=` comes
+pub arguments_fields : (r : Levels) → open_to r ≡ true → (ts rest : List Spelled) (x : Expr) (n : ℕ) → has (right_parenthesis ∷ []) (head_sort ts) ≡ false → read r Expression ts ≡ Done (x, n) rest
+    → is_name x ≡ true → has (equals ∷ []) (head_sort rest) ≡ true → found_as arguments_seen (read r Arguments ts) ≡ found_as (fields_seen x) (reads (fields_form r) rest)
+arguments_fields r o ts rest x n h e i g =
+    rest_goes r o ts rest (x, n) h e
+    ∙ (ap (found_as (λ v. arguments_seen (inl ((x, n), v)))) (room_left (equals ∷ []) (reads (fields_form r)) (reads (values_form r)) (is_name x) rest i refl g)
+    ∙ found_as_as (λ v. arguments_seen (inl ((x, n), v))) inl (reads (fields_form r) rest))
 
-  -- a name is read, and `=` comes
-  pub arguments_fields : (r : Levels) → open_to r ≡ true → (ts rest : List Spelled) (x : Expr) (n : ℕ) → has (right_parenthesis ∷ []) (head_sort ts) ≡ false → read r Expression ts ≡ Done (x, n) rest
-      → is_name x ≡ true → has (equals ∷ []) (head_sort rest) ≡ true → found_as arguments_seen (read r Arguments ts) ≡ found_as (fields_seen all_fields x) (reads (fields_form r) rest)
-  arguments_fields r o ts rest x n h e i g =
-      rest_goes r o ts rest (x, n) h e
-      ∙ (ap (found_as (λ v. arguments_seen (inl ((x, n), v)))) (room_left (equals ∷ []) (reads (fields_form r)) (reads (values_form r)) (is_name x) rest i refl g)
-      ∙ found_as_as (λ v. arguments_seen (inl ((x, n), v))) inl (reads (fields_form r) rest))
+-- no `=` comes
+pub arguments_values : (r : Levels) → open_to r ≡ true → (ts rest : List Spelled) (x : Expr) (n : ℕ) → has (right_parenthesis ∷ []) (head_sort ts) ≡ false → read r Expression ts ≡ Done (x, n) rest
+    → has (equals ∷ []) (head_sort rest) ≡ false → found_as arguments_seen (read r Arguments ts) ≡ found_as (values_seen (x, n)) (reads (values_form r) rest)
+arguments_values r o ts rest x n h e g =
+    rest_goes r o ts rest (x, n) h e
+    ∙ (ap (found_as (λ v. arguments_seen (inl ((x, n), v)))) (room_right (equals ∷ []) (reads (fields_form r)) (reads (values_form r)) (is_name x) rest g)
+    ∙ found_as_as (λ v. arguments_seen (inl ((x, n), v))) inr (reads (values_form r) rest))
 
-  -- no `=` comes
-  pub arguments_values : (r : Levels) → open_to r ≡ true → (ts rest : List Spelled) (x : Expr) (n : ℕ) → has (right_parenthesis ∷ []) (head_sort ts) ≡ false → read r Expression ts ≡ Done (x, n) rest
-      → has (equals ∷ []) (head_sort rest) ≡ false → found_as arguments_seen (read r Arguments ts) ≡ found_as (values_seen all_values (x, n)) (reads (values_form r) rest)
-  arguments_values r o ts rest x n h e g =
-      rest_goes r o ts rest (x, n) h e
-      ∙ (ap (found_as (λ v. arguments_seen (inl ((x, n), v)))) (room_right (equals ∷ []) (reads (fields_form r)) (reads (values_form r)) (is_name x) rest g)
-      ∙ found_as_as (λ v. arguments_seen (inl ((x, n), v))) inr (reads (values_form r) rest))
+-- what is read is no name
+pub arguments_unnamed : (r : Levels) → open_to r ≡ true → (ts rest : List Spelled) (x : Expr) (n : ℕ) → has (right_parenthesis ∷ []) (head_sort ts) ≡ false → read r Expression ts ≡ Done (x, n) rest
+    → is_name x ≡ false → found_as arguments_seen (read r Arguments ts) ≡ found_as (values_seen (x, n)) (reads (values_form r) rest)
+arguments_unnamed r o ts rest x n h e i =
+    rest_goes r o ts rest (x, n) h e
+    ∙ (ap (found_as (λ v. arguments_seen (inl ((x, n), v)))) (room_shut (equals ∷ []) (reads (fields_form r)) (reads (values_form r)) (is_name x) rest i)
+    ∙ found_as_as (λ v. arguments_seen (inl ((x, n), v))) inr (reads (values_form r) rest))
 
-  -- what is read is no name
-  pub arguments_unnamed : (r : Levels) → open_to r ≡ true → (ts rest : List Spelled) (x : Expr) (n : ℕ) → has (right_parenthesis ∷ []) (head_sort ts) ≡ false → read r Expression ts ≡ Done (x, n) rest
-      → is_name x ≡ false → found_as arguments_seen (read r Arguments ts) ≡ found_as (values_seen all_values (x, n)) (reads (values_form r) rest)
-  arguments_unnamed r o ts rest x n h e i =
-      rest_goes r o ts rest (x, n) h e
-      ∙ (ap (found_as (λ v. arguments_seen (inl ((x, n), v)))) (room_shut (equals ∷ []) (reads (fields_form r)) (reads (values_form r)) (is_name x) rest i)
-      ∙ found_as_as (λ v. arguments_seen (inl ((x, n), v))) inr (reads (values_form r) rest))
+-- what they are applied to
+
+deepest_fields : (a : Expr) (b : Field) (n : ℕ) (more : List (Spelled × (Spelled × FieldParts))) → deepest ((a, n) ∷ more_values more) ≡ deepest ((b, n) ∷ map (λ x. field_view x.1) more)
+deepest_fields a b n [] = refl
+deepest_fields a b n (x ∷ xs) = ap (λ m. max n m) (deepest_fields x.1.1.1.0 (field_view x.1).0 x.1.1.1.1 xs)
+
+pub applied_seen : (x : Tall Expr) (v : ArgumentsParts) (a : Argued) (n : ℕ) (close : Span) → arguments_seen v ≡ (a, (n, close)) → apply_to x v ≡ (applied x.0 a close, suc (max x.1 n))
+applied_seen x v a n close e = same v ∙ ap (λ (p : Argued × (ℕ × Span)). (applied x.0 p.0 p.1.1, suc (max x.1 p.1.0))) e
+  where
+    same : (v : ArgumentsParts) → apply_to x v ≡ (applied x.0 (arguments_seen v).0 (arguments_seen v).1.1, suc (max x.1 (arguments_seen v).1.0))
+    same (inl (e, inl (v, (more, j)))) =
+        let first = field (name_text e.0) v.1.0 in
+        ap (λ n. (applied x.0 (arguments.Fields (first ∷ more_fields more)) j.span, suc (max x.1 n))) (deepest_fields v.1.0 first v.1.1 more)
+    same (inl (e, inr (more, j))) = refl
+    same (inr j) = refl

@@ -1,7 +1,7 @@
 -- The tokens of a file from an index on.
-use Rattle.std.proofs.Common.{◌≡◌, ℕ, suc, ◌<◌, ◌≤◌, List, [], ◌∷◌, length, map, true, false, sym, ap, ◌∙◌}
-use Rattle.std.specs.Prelude.{drop, eqb}
-use Rattle.std.proofs.lemmas.Bool.{eq-eqb, ne_eqb}
+use Rattle.std.proofs.Common.{◌≡◌, ℕ, suc, ◌<◌, ◌≤◌, List, [], ◌∷◌, length, map, Bool, true, false, refl, sym, ap, ◌∙◌, true≢false, arith}
+use Rattle.std.specs.Prelude.{drop, eqb, leb}
+use Rattle.std.proofs.lemmas.Bool.{eq-eqb, ne_eqb, leb-true, leb-false}
 use Rattle.sl_grammar.specs.Phrase.{Done, Stopped, read_token}
 use Rattle.sl_grammar.specs.Grammar.{is, has}
 use Rattle.std.proofs.Math.ListN.{get_or}
@@ -9,7 +9,7 @@ use Rattle.std.proofs.Math.Seq.{drop-cons}
 use Rattle.std.proofs.lemmas.List.{drop_all}
 use Rattle.sl_text.specs.declared.token.Token.{Token}
 use Rattle.sl_tree.specs.Sorts.{spelled, sort}
-use Rattle.sl_parse_expr.specs.Told.{behind}
+use Rattle.sl_parse_expr.specs.Told.{behind, head_sort}
 
 pub behind_more : (bytes : List ℕ) (tokens : List Token) (at : ℕ) (token : Token) → at < length tokens → token ≡ get_or tokens at token → behind bytes tokens at ≡ spelled bytes token ∷ behind bytes tokens (suc at)
 unfolding behind
@@ -55,3 +55,13 @@ pub one_other : (bytes : List ℕ) (tokens : List Token) (at : ℕ) (sorts : Lis
 one_other bytes tokens at sorts token lt e t =
     let b = behind_more bytes tokens at token lt e in
     rw (b, t)
+
+-- a token of some sorts comes: there is one
+pub present : (bytes : List ℕ) (tokens : List Token) (at : ℕ) (sorts : List ℕ) → has sorts 99 ≡ false → has sorts (head_sort (behind bytes tokens at)) ≡ true → at < length tokens
+present bytes tokens at sorts n h = by (leb (length tokens) at) refl
+  where
+    by : (b : Bool) → leb (length tokens) at ≡ b → at < length tokens
+    by true e =
+        let none : behind bytes tokens at ≡ [] = behind_end bytes tokens at (leb-true (length tokens) at e) in
+        absurd (true≢false (sym h ∙ (ap (λ ts. has sorts (head_sort ts)) none ∙ n)))
+    by false e = omega (arith, leb-false (length tokens) at e)

@@ -1,5 +1,5 @@
 -- Names and numbers among the expressions, by their kinds.
-use Rattle.std.proofs.Common.{◌≡◌, ℕ, suc, List, Bool, true, false, refl, sym, ap, ◌∙◌, true≢false, if◌then◌else◌}
+use Rattle.std.proofs.Common.{◌≡◌, ℕ, suc, ◌≤◌, List, Bool, true, false, refl, sym, ap, ◌∙◌, true≢false, if◌then◌else◌, arith}
 use Rattle.sl_text.specs.declared.token.Kind.{Kind}
 use Rattle.sl_text.specs.declared.token.Kind.TheVariants as kind
 use Rattle.sl_text.specs.contracts.token.Kind.{the_type}
@@ -89,3 +89,11 @@ minus_other k x o f = refl
 pub minus_plain : (k : Spelled) (e : Expr) (n : ℕ) → is_number e ≡ false → minus_to k (e, n) ≡ (expr (expr_kind.Prefix k.text e) (join k.span (span_of e)), suc n)
 unfolding minus_to is_number
 minus_plain k e n f = minus_other k (e, n) (out-ExprKind (out-Expr e).kind) f
+
+-- it has one level more than that, at most
+pub minus_low : (k : Spelled) (e : Expr) (n : ℕ) → (minus_to k (e, n)).1 ≤ suc n
+minus_low k e n = by (is_number e) refl
+  where
+    by : (b : Bool) → is_number e ≡ b → (minus_to k (e, n)).1 ≤ suc n
+    by true f = let h : (minus_to k (e, n)).1 ≡ n = ap (λ z. z.1) (minus_number k e n f) in omega (arith, h)
+    by false f = let h : (minus_to k (e, n)).1 ≡ suc n = ap (λ z. z.1) (minus_plain k e n f) in omega (arith, h)

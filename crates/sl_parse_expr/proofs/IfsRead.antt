@@ -23,7 +23,7 @@ use Rattle.sl_parse_expr.specs.Told.{head_sort, reader, reads, spanned, head_vie
 use Rattle.sl_parse_expr.proofs.Laws as laws
 use Rattle.sl_parse_expr.proofs.AllSeen.{all_seen}
 use Rattle.sl_parse_expr.proofs.Telling.{as_done, as_stopped, both_go, both_first, both_second, both_done, then_go, then_first, either_left, either_right, room_left}
-use Rattle.sl_parse_expr.proofs.StatementsRead.{same_as, and_first, and_second, room_not, no_expression, token}
+use Rattle.sl_parse_expr.proofs.StatementsRead.{same_as, room_not, no_expression, token}
 
 -- room two levels below is room one level below
 pub deeper_fits : (r : Levels) → fits (deeper r) ≡ true → fits r ≡ true
@@ -142,16 +142,15 @@ module _ (r : Levels) (f : fits r ≡ true) (ts : List Spelled) where
           ∙ (found_as_as here inr (reads (blocks_form r) vs) ∙ as_same (blocks_from (i, v.0)) (blocks_from (head_of i.span (x, n))) (blocks_same i v.0 (x, n) v.2) (reads (blocks_form r) vs)))
 
       -- none is, or there is no room for one, or not for this condition: it is a statement with blocks
-      pub if_any_plain : fits (deeper r) ≡ true → has (expression_kinds (deeper (deeper r))) (head_sort vs) ≡ false
+      pub if_any_blocks : and (holds (deeper (deeper r)) n) (and (fits (deeper r)) (has (expression_kinds (deeper (deeper r))) (head_sort vs))) ≡ false
           → found_as if_any_from (read r If_any ts) ≡ found_as (blocks_from (head_of i.span (x, n))) (reads (blocks_form r) vs)
-      if_any_plain g h =
-          blocks_come (and_second (tail_room r n) (has (tail_kinds r) (head_sort vs)) (ap (λ b. has (if b then expression_kinds (deeper (deeper r)) else number ∷ []) (head_sort vs)) g ∙ h))
-
-      pub if_any_shut : fits (deeper r) ≡ false → found_as if_any_from (read r If_any ts) ≡ found_as (blocks_from (head_of i.span (x, n))) (reads (blocks_form r) vs)
-      if_any_shut g = blocks_come (and_first (tail_room r n) (has (tail_kinds r) (head_sort vs)) (and_first (fits (deeper r)) (holds (deeper (deeper r)) n) g))
-
-      pub if_any_high : holds (deeper (deeper r)) n ≡ false → found_as if_any_from (read r If_any ts) ≡ found_as (blocks_from (head_of i.span (x, n))) (reads (blocks_form r) vs)
-      if_any_high g = blocks_come (and_first (tail_room r n) (has (tail_kinds r) (head_sort vs)) (and_second (fits (deeper r)) (holds (deeper (deeper r)) n) g))
+      if_any_blocks h = blocks_come (by (fits (deeper r)) (holds (deeper (deeper r)) n) h)
+        where
+          by : (b c : Bool) → and c (and b (has (expression_kinds (deeper (deeper r))) (head_sort vs))) ≡ false
+              → and (and b c) (has (if b then expression_kinds (deeper (deeper r)) else number ∷ []) (head_sort vs)) ≡ false
+          by true true e = e
+          by true false e = refl
+          by false c e = refl
 
 -- the rest of an `if` expression
 

@@ -1,6 +1,6 @@
 -- Infix operators, and operands with a prefix or without, as the code reads them.
-use Rattle.std.proofs.Common.{◌≡◌, ℕ, zero, suc, ◌<◌, ◌≤◌, List, [], ◌∷◌, ◌++◌, refl, ap, ◌∙◌, sym, inl, inr, ◌⊎◌, Bool, true, false, if◌then◌else◌, arith}
-use Rattle.std.specs.Prelude.{max, leb, eqb, ◌==◌}
+use Rattle.std.proofs.Common.{◌≡◌, ℕ, zero, suc, ◌<◌, ◌≤◌, List, [], ◌∷◌, refl, ap, ◌∙◌, sym, inl, inr, ◌⊎◌, Bool, true, false, if◌then◌else◌, arith}
+use Rattle.std.specs.Prelude.{max, leb, ◌==◌}
 use Rattle.std.proofs.lemmas.Bool.{leb-true, leb-false}
 use Rattle.sl_grammar.specs.Phrase.{Found, Done, Stopped, found_then, read_both, read_either, read_token}
 use Rattle.sl_grammar.specs.Law.{found_as}
@@ -22,7 +22,7 @@ use Rattle.sl_parse_expr.specs.Grammar.{grammar, read, room, trees, choose, spel
 use Rattle.sl_parse_expr.specs.Told.{head_sort, reader}
 use Rattle.sl_parse_expr.proofs.Laws as laws
 use Rattle.sl_parse_expr.proofs.AllSeen.{all_seen}
-use Rattle.sl_parse_expr.proofs.Telling.{Shrinks, both_second, both_done, either_left, either_right, room_left, room_right, room_shut, comes_not, loop_ends, loop_shut, loop_stops, loop_goes}
+use Rattle.sl_parse_expr.proofs.Telling.{Shrinks, both_second, both_done, either_left, either_right, room_left, room_right, room_shut, either_fails, loop_ends, loop_shut, loop_stops, loop_goes}
 use Rattle.sl_parse_expr.proofs.ExpressionsRead.{none_spelled}
 use Rattle.sl_parse_expr.proofs.SeenOperands.{token_literal, number_is_kind}
 
@@ -49,12 +49,15 @@ up_to_more (suc m) (suc (suc l)) h e = up_to_more m (suc l) (omega arith) e
 pub next_level : (l : ℕ) → l ≤ 7 → up_to 8 l ≡ true → up_to 8 (suc l) ≡ true
 next_level l h e = up_to_more 7 l h e
 
-pub least_level : (l : ℕ) → up_to 8 l ≡ true → 1 ≤ l
-least_level zero e = absurd cc
-least_level (suc l) e = omega arith
-
 pub some_level : (l : ℕ) → l ≤ 7 → up_to 8 l ≡ true → up_to 7 l ≡ true
 some_level l h e = up_to_less 7 l h e
+
+-- there is none above the last
+pub most_level : (m l : ℕ) → up_to m l ≡ true → l ≤ m
+most_level m zero e = omega arith
+most_level zero (suc l) e = absurd cc
+most_level (suc m) (suc zero) e = omega arith
+most_level (suc m) (suc (suc l)) e = let h = most_level m (suc l) e in omega arith
 
 leb_low : (l : ℕ) → l ≤ 7 → leb l 7 ≡ true
 leb_low l h = by (leb l 7) refl
@@ -71,7 +74,7 @@ leb_high l h = by (leb l 7) refl
     by false e = e
 
 -- no operator is missing
-no_operator : (l : ℕ) → has (operators l) 99 ≡ false
+pub no_operator : (l : ℕ) → has (operators l) 99 ≡ false
 no_operator l = by (l == 1) (l == 2) (l == 3) (l == 4) (l == 5) (l == 6)
   where
     by : (a b c d e f : Bool)
@@ -146,6 +149,18 @@ module _ (r : Levels) (l : ℕ) (x : Tall Expr) (ts : List Spelled) where
       by true = h
       by false = refl
 
+  -- one of these
+  pub links_end : and (and (fits r) (holds (deeper r) x.1)) (has (operators l) (head_sort ts)) ≡ false → links_from r l x ts ≡ Done x ts
+  links_end e = by (either_fails (and (fits r) (holds (deeper r) x.1)) (has (operators l) (head_sort ts)) e)
+    where
+      shut : (holds (deeper r) x.1 ≡ false) ⊎ (fits r ≡ false) → links_from r l x ts ≡ Done x ts
+      shut (inl g) = links_full g
+      shut (inr f) = links_shut f
+
+      by : (has (operators l) (head_sort ts) ≡ false) ⊎ (and (fits r) (holds (deeper r) x.1) ≡ false) → links_from r l x ts ≡ Done x ts
+      by (inl h) = links_ends h
+      by (inr o) = shut (either_fails (fits r) (holds (deeper r) x.1) o)
+
   module _ (u : up_to 8 l ≡ true) (low : l ≤ 7) (f : fits r ≡ true) (g : holds (deeper r) x.1 ≡ true) (h : has (operators l) (head_sort ts) ≡ true)
       (more : List Spelled) (k : Spelled) (a : read_token (is sort (operators l)) ts ≡ Done k more) where
     link_valid : and (fits r) (up_to 7 l) ≡ true
@@ -178,25 +193,8 @@ module _ (r : Levels) (l : ℕ) (x : Tall Expr) (ts : List Spelled) where
 
 -- an operand
 
--- what is in neither of two lists
-pub has_none : (xs ys : List ℕ) (n : ℕ) → has xs n ≡ false → has ys n ≡ false → has (xs ++ ys) n ≡ false
-has_none [] ys n e d = d
-has_none (x ∷ xs) ys n e d = by (eqb x n) e (λ e. has_none xs ys n e d)
-  where
-    by : (b : Bool) → (if b then true else has xs n) ≡ false → (has xs n ≡ false → has (xs ++ ys) n ≡ false) → (if b then true else has (xs ++ ys) n) ≡ false
-    by true e f = e
-    by false e f = f e
-
 abbrev sign_kinds : List ℕ
 sign_kinds = exclamation ∷ tilde ∷ []
-
--- what a peek tells of these
-pub sign_comes : (peeked : ℕ) (ts : List Spelled) → peeked ≡ head_sort ts → (peeked ≡ exclamation) ⊎ (peeked ≡ tilde) → has (exclamation ∷ tilde ∷ []) (head_sort ts) ≡ true
-sign_comes peeked ts e (inl s) = let t : head_sort ts ≡ exclamation = sym e ∙ s in rw (t) refl
-sign_comes peeked ts e (inr s) = let t : head_sort ts ≡ tilde = sym e ∙ s in rw (t) refl
-
-pub sign_comes_not : (peeked : ℕ) (ts : List Spelled) → peeked ≡ head_sort ts → (peeked ≡ exclamation → ⊥) → (peeked ≡ tilde → ⊥) → has (exclamation ∷ tilde ∷ []) (head_sort ts) ≡ false
-sign_comes_not peeked ts e a b = has_none (exclamation ∷ []) (tilde ∷ []) (head_sort ts) (comes_not exclamation peeked ts e a) (comes_not tilde peeked ts e b)
 
 -- where one comes, no minus does
 pub sign_only : (ts : List Spelled) → has (exclamation ∷ tilde ∷ []) (head_sort ts) ≡ true → has (minus ∷ []) (head_sort ts) ≡ false

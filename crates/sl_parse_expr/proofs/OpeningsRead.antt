@@ -9,6 +9,7 @@ use Rattle.sl_grammar.specs.Many.{list_of}
 use Rattle.sl_grammar.specs.Steps.{read_steps, read_all_steps}
 use Rattle.sl_grammar.specs.Grammar.{is, has, and, step_on, read_form}
 use Rattle.sl_grammar.specs.Brackets.{read_group}
+use Rattle.sl_grammar.proofs.Grammar.{and_left, and_right}
 use Rattle.sl_grammar.proofs.Growing.{found_as_as}
 use Rattle.sl_tree.specs.Sorts.{Spelled, sort, equals, match_word, contract_name, left_parenthesis, prefixed_l}
 use Rattle.sl_tree.specs.WellShaped.{join, expr, stmt, same_bracket, bracket_of, Round}
@@ -23,7 +24,7 @@ use Rattle.sl_parse_expr.specs.Grammar.{grammar, room, read, room_at, choose}
 use Rattle.sl_parse_expr.specs.Told.{head_sort, reader, reads, cases_view, assigned_form, assigned_to, read_skip, skip_view}
 use Rattle.sl_parse_expr.proofs.Laws as laws
 use Rattle.sl_parse_expr.proofs.AllSeen.{all_seen}
-use Rattle.sl_parse_expr.proofs.Telling.{as_done, as_stopped, both_first, both_second, both_done, then_go, then_first, either_left, either_right, room_left, token_stops}
+use Rattle.sl_parse_expr.proofs.Telling.{as_done, as_stopped, both_first, both_second, both_done, then_go, then_first, either_left, either_right, room_left}
 use Rattle.sl_parse_expr.proofs.StatementsRead.{same_as, only_sort, and_first, room_not, token}
 
 -- what is assigned to an expression that begins a statement, or nothing
@@ -105,10 +106,6 @@ without_goes : {X : Type 0} (ks : List ℕ) (g : List Spelled → Found Spelled 
 without_goes ks g [] h = refl
 without_goes ks g (k ∷ ts) h = rw (h)
 
-without_stops : {X : Type 0} (ks : List ℕ) (g : List Spelled → Found Spelled X) (ts : List Spelled) → has ks 99 ≡ false → has ks (head_sort ts) ≡ true → read_without (is sort ks) g ts ≡ Stopped ts
-without_stops ks g [] n h = absurd cc
-without_stops ks g (k ∷ ts) n h = rw (h)
-
 both_same : {X Y : Type 0} (l : List Spelled → Found Spelled X) (m n : List Spelled → Found Spelled Y) → ((ts : List Spelled) → m ts ≡ n ts) → (ts : List Spelled) → read_both l m ts ≡ read_both l n ts
 both_same {X} {Y} l m n e ts = by (l ts)
   where
@@ -156,11 +153,6 @@ module _ (r : Levels) (o : open_to r ≡ true) (ts : List Spelled) where
   pub opening_low : fits r ≡ false → found_as opening_from (read r Opening ts) ≡ found_as skip_view (read_skip ts)
   opening_low f = ap (found_as opening_from) (low_rule f) ∙ skip_same
 
-  -- and neither `Contract` nor `Invariant` comes
-  pub opening_shut : fits r ≡ false → has (contract_name ∷ []) (head_sort ts) ≡ false → found_as opening_from (read r Opening ts) ≡ Stopped ts
-  opening_shut f h =
-      opening_low f ∙ ap (found_as skip_view) (both_first (token (contract_name ∷ [])) (read_group same_bracket bracket_of Round) ts ts (token_stops (contract_name ∷ []) ts h))
-
   started_comes : fits r ≡ true → leads (is sort (contract_name ∷ [])) (is sort (left_parenthesis ∷ [])) ts ≡ false → has (prefixed_l ∷ []) (head_sort ts) ≡ false
       → found_as opening_from (read r Opening ts) ≡ found_as started_from (read r Started ts)
   started_comes f e l =
@@ -178,18 +170,33 @@ module _ (r : Levels) (o : open_to r ≡ true) (ts : List Spelled) where
   opening_named us k f h a n =
       started_comes f (leads_second (contract_name ∷ []) (left_parenthesis ∷ []) ts us k refl a ∙ n) (only_sort contract_name (head_sort ts) (prefixed_l ∷ []) h refl)
 
-  -- a Prefixed that is skipped begins none
-  pub opening_text : has (prefixed_l ∷ []) (head_sort ts) ≡ true → found_as opening_from (read r Opening ts) ≡ Stopped ts
-  opening_text h = by (fits r) refl
-    where
-      other : has (contract_name ∷ []) (head_sort ts) ≡ false
-      other = only_sort prefixed_l (head_sort ts) (contract_name ∷ []) h refl
+  -- what the code tests: it is skipped, or there is no room for anything else
+  module _ (us : List Spelled) (here : has (contract_name ∷ []) (head_sort ts) ≡ true → (k : Spelled) × (read_token (is sort (contract_name ∷ [])) ts ≡ Done k us)) where
+    pub opening_skipped : (if fits r then and (has (contract_name ∷ []) (head_sort ts)) (has (left_parenthesis ∷ []) (head_sort us)) else true) ≡ true
+        → found_as opening_from (read r Opening ts) ≡ found_as skip_view (read_skip ts)
+    opening_skipped e = by (fits r) refl e
+      where
+        by : (b : Bool) → fits r ≡ b → (if b then and (has (contract_name ∷ []) (head_sort ts)) (has (left_parenthesis ∷ []) (head_sort us)) else true) ≡ true
+            → found_as opening_from (read r Opening ts) ≡ found_as skip_view (read_skip ts)
+        by true f e =
+            let k = here (and_left (has (contract_name ∷ []) (head_sort ts)) (has (left_parenthesis ∷ []) (head_sort us)) e) in
+            opening_skips us k.0 f k.1 (and_right (has (contract_name ∷ []) (head_sort ts)) (has (left_parenthesis ∷ []) (head_sort us)) e)
+        by false f e = opening_low f
 
-      by : (b : Bool) → fits r ≡ b → found_as opening_from (read r Opening ts) ≡ Stopped ts
-      by true f =
-          ap (found_as opening_from) (opening_rule f ∙ (ahead_second (contract_name ∷ []) (left_parenthesis ∷ []) (read r Group) (read_without (is sort (prefixed_l ∷ [])) (read r Started)) ts
-          (leads_no (contract_name ∷ []) (left_parenthesis ∷ []) ts other) ∙ ap (found_as inr) (without_stops (prefixed_l ∷ []) (read r Started) ts refl h)))
-      by false f = opening_shut f other
+    -- or it begins with an expression, for which there is room
+    pub opening_begins : has (prefixed_l ∷ []) (head_sort ts) ≡ false → (if fits r then and (has (contract_name ∷ []) (head_sort ts)) (has (left_parenthesis ∷ []) (head_sort us)) else true) ≡ false
+        → (fits r ≡ true) × (found_as opening_from (read r Opening ts) ≡ found_as started_from (read r Started ts))
+    opening_begins l e = by (fits r) refl e
+      where
+        named : (b : Bool) → has (contract_name ∷ []) (head_sort ts) ≡ b → fits r ≡ true → and b (has (left_parenthesis ∷ []) (head_sort us)) ≡ false
+            → found_as opening_from (read r Opening ts) ≡ found_as started_from (read r Started ts)
+        named true h f e = let k = here h in opening_named us k.0 f h k.1 e
+        named false h f e = opening_starts f h l
+
+        by : (b : Bool) → fits r ≡ b → (if b then and (has (contract_name ∷ []) (head_sort ts)) (has (left_parenthesis ∷ []) (head_sort us)) else true) ≡ false
+            → (fits r ≡ true) × (found_as opening_from (read r Opening ts) ≡ found_as started_from (read r Started ts))
+        by true f e = (f, named (has (contract_name ∷ []) (head_sort ts)) refl f e)
+        by false f e = absurd cc
 
 -- what begins with an expression, and may be a `match`
 

@@ -7,48 +7,26 @@ use Rattle.sl_grammar.specs.Law.{found_as}
 use Rattle.sl_grammar.specs.Guard.{guard}
 use Rattle.sl_grammar.specs.Grammar.{Token, Ref, Then, is, has, and, chain_room}
 use Rattle.sl_grammar.specs.Growing.{grown}
-use Rattle.sl_grammar.proofs.Grammar.{subset_sound, disjoint_sound}
 use Rattle.sl_grammar.proofs.Growing.{found_as_as, chain_grown, shrinks_read}
-use Rattle.sl_tree.specs.Sorts.{Spelled, sort, minus, exclamation, tilde, dot, left_bracket, right_bracket, left_parenthesis, right_parenthesis, this_word}
+use Rattle.sl_tree.specs.Sorts.{Spelled, sort, dot, left_bracket, right_bracket, left_parenthesis, right_parenthesis, this_word}
 use Rattle.sl_tree.specs.WellShaped.{join, expr, names, literals}
 use Rattle.sl_tree.specs.declared.tree.Expr.{Expr}
 use Rattle.sl_tree.specs.declared.tree.TypeTerm.{TypeTerm}
 use Rattle.sl_tree.specs.declared.tree.ExprKind.TheVariants as expr_kind
-use Rattle.sl_parse_expr.specs.Names.{Type_term, Expression, Prefix, Postfix, Suffix, Arguments, Primary, at, Levels, holds, open_to, deeper, fits, listed, types_form, head_form}
+use Rattle.sl_parse_expr.specs.Names.{Type_term, Expression, Postfix, Suffix, Arguments, Primary, at, Levels, holds, open_to, deeper, fits, listed, types_form, head_form}
 use Rattle.sl_parse_expr.specs.Values.{Tall, T_of, ArgumentsParts, SuffixParts, TypesParts, span_of, token_expr, apply_to, suffix_to, primary_from}
 use Rattle.sl_parse_expr.specs.Grammar.{read, room, suffix_kinds, parts, spells_at}
 use Rattle.sl_parse_expr.specs.Told.{head_sort, reads, types_view}
 use Rattle.sl_parse_expr.proofs.Laws as laws
 use Rattle.sl_parse_expr.proofs.AllSeen.{all_seen}
-use Rattle.sl_parse_expr.proofs.Telling.{Shrinks, as_done, as_stopped, both_first, both_second, both_done, either_left, either_right, room_left, room_right, room_shut, token_stops, loop_ends, loop_shut, loop_stops, loop_goes}
+use Rattle.sl_parse_expr.proofs.Telling.{Shrinks, as_done, as_stopped, both_first, both_second, both_done, either_left, either_right, room_left, room_right, room_shut, either_fails, loop_ends, loop_shut, loop_stops, loop_goes}
 use Rattle.sl_parse_expr.proofs.ExpressionsRead.{inside_form, none_spelled}
-use Rattle.sl_parse_expr.proofs.LevelsRead.{found_same, has_none, prefix_plain}
+use Rattle.sl_parse_expr.proofs.LevelsRead.{found_same}
 
 -- what no suffix belongs to
 
 abbrev single : List ℕ
 single = literals ++ names ++ this_word ∷ []
-
--- what tests of a sort tell of one token
-pub single_literal : (n : ℕ) → has literals n ≡ true → has (literals ++ names ++ this_word ∷ []) n ≡ true
-single_literal n h = subset_sound literals single n refl h
-
-pub single_name : (n : ℕ) → has names n ≡ true → has (literals ++ names ++ this_word ∷ []) n ≡ true
-single_name n h = subset_sound names single n refl h
-
-pub single_this : (n : ℕ) → n ≡ this_word → has (literals ++ names ++ this_word ∷ []) n ≡ true
-single_this n e = ap (has single) e
-
-pub single_none : (n : ℕ) → has literals n ≡ false → has names n ≡ false → has (this_word ∷ []) n ≡ false → has (literals ++ names ++ this_word ∷ []) n ≡ false
-single_none n a b c = has_none literals (names ++ this_word ∷ []) n a (has_none names (this_word ∷ []) n b c)
-
--- it begins with no parenthesis
-pub single_only : (ts : List Spelled) → has (literals ++ names ++ this_word ∷ []) (head_sort ts) ≡ true → has (left_parenthesis ∷ []) (head_sort ts) ≡ false
-single_only ts h = by (has (left_parenthesis ∷ []) (head_sort ts)) refl
-  where
-    by : (b : Bool) → has (left_parenthesis ∷ []) (head_sort ts) ≡ b → has (left_parenthesis ∷ []) (head_sort ts) ≡ false
-    by true e = absurd (disjoint_sound single (left_parenthesis ∷ []) (head_sort ts) refl h e)
-    by false e = e
 
 -- no parenthesis comes, or there is no room for one
 abbrev pub NoParen : Levels → List Spelled → Type 0
@@ -93,24 +71,13 @@ module _ (r : Levels) (o : open_to r ≡ true) where
         (both_done (read (deeper r) Expression) (read_token (is sort (right_parenthesis ∷ []))) us x vs q rest b e))
         ∙ (ap (λ t. Done (t, suc x.1) rest) (sym s) ∙ ap (λ n. Done (whole, n) rest) (sym n)))
 
-  primary_single : (ts : List Spelled) → NoParen r ts → read r Primary ts ≡ found_as (λ k. (token_expr k, 1)) (read_token (is sort single) ts)
+  -- it is one token, or none
+  pub primary_single : (ts : List Spelled) → NoParen r ts → read r Primary ts ≡ found_as (λ k. (token_expr k, 1)) (read_token (is sort (literals ++ names ++ this_word ∷ [])) ts)
   primary_single ts n = primary_rule ts ∙ (ap (found_as primary_from) (by n) ∙ found_as_as primary_from inr (read_token (is sort single) ts))
     where
       by : NoParen r ts → read_either (guard (fits r) (is sort (left_parenthesis ∷ []))) (reads (head_form (deeper r))) (read_token (is sort single)) ts ≡ found_as inr (read_token (is sort single) ts)
       by (inl h) = room_right (left_parenthesis ∷ []) (reads (head_form (deeper r))) (read_token (is sort single)) (fits r) ts h
       by (inr f) = room_shut (left_parenthesis ∷ []) (reads (head_form (deeper r))) (read_token (is sort single)) (fits r) ts f
-
-  -- one token
-  pub primary_token : (ts rest : List Spelled) (k : Spelled) → has (literals ++ names ++ this_word ∷ []) (head_sort ts) ≡ true → read_token (is sort (literals ++ names ++ this_word ∷ [])) ts ≡ Done k rest → read r Primary ts ≡ Done (token_expr k, 1) rest
-  primary_token ts rest k h e = primary_single ts (inl (single_only ts h)) ∙ ap (found_as (λ k. (token_expr k, 1))) e
-
-  -- another one
-  pub primary_other : (ts : List Spelled) → NoParen r ts → has (literals ++ names ++ this_word ∷ []) (head_sort ts) ≡ false → read r Primary ts ≡ Stopped ts
-  primary_other ts n h = primary_single ts n ∙ ap (found_as (λ k. (token_expr k, 1))) (token_stops single ts h)
-
-  -- no token
-  pub primary_none : (ts : List Spelled) → ts ≡ [] → read r Primary ts ≡ Stopped ts
-  primary_none ts e = primary_other ts (inl (ap (λ ts. has (left_parenthesis ∷ []) (head_sort ts)) e)) (ap (λ ts. has single (head_sort ts)) e)
 
 -- suffixes
 
@@ -135,14 +102,6 @@ module _ (r : Levels) (o : open_to r ≡ true) where
   -- what they belong to, and the loop behind it
   pub postfix_begins : (ts rest : List Spelled) (x : Tall Expr) → read r Primary ts ≡ Done x rest → read r Postfix ts ≡ suffixes_from r x rest
   postfix_begins ts rest x e = postfix_chain ts ∙ ap (λ f. found_then f (λ x rest. suffixes_from r x rest)) e
-
-  -- no token
-  pub postfix_none : (ts : List Spelled) → ts ≡ [] → read r Postfix ts ≡ Stopped ts
-  postfix_none ts e = postfix_halts ts ts (primary_none r o ts e)
-
-  pub prefix_none : (ts : List Spelled) → ts ≡ [] → read r Prefix ts ≡ Stopped ts
-  prefix_none ts e =
-      prefix_plain r o ts (ap (λ ts. has (minus ∷ []) (head_sort ts)) e) (inl (ap (λ ts. has (exclamation ∷ tilde ∷ []) (head_sort ts)) e)) ∙ postfix_none ts e
 
 -- a suffix
 
@@ -265,6 +224,18 @@ module _ (r : Levels) (x : Tall Expr) (ts : List Spelled) where
       by : (b : Bool) → and b (holds (deeper r) x.1) ≡ false
       by true = h
       by false = refl
+
+  -- one of these
+  pub suffixes_end : and (and (fits r) (holds (deeper r) x.1)) (has suffix_kinds (head_sort ts)) ≡ false → suffixes_from r x ts ≡ Done x ts
+  suffixes_end e = by (either_fails (and (fits r) (holds (deeper r) x.1)) (has suffix_kinds (head_sort ts)) e)
+    where
+      shut : (holds (deeper r) x.1 ≡ false) ⊎ (fits r ≡ false) → suffixes_from r x ts ≡ Done x ts
+      shut (inl g) = suffixes_full g
+      shut (inr f) = suffixes_shut f
+
+      by : (has suffix_kinds (head_sort ts) ≡ false) ⊎ (and (fits r) (holds (deeper r) x.1) ≡ false) → suffixes_from r x ts ≡ Done x ts
+      by (inl h) = suffixes_ends h
+      by (inr o) = shut (either_fails (fits r) (holds (deeper r) x.1) o)
 
   module _ (f : fits r ≡ true) (g : holds (deeper r) x.1 ≡ true) (h : has suffix_kinds (head_sort ts) ≡ true) where
     suffixes_opened : suffixes_open r x ≡ true

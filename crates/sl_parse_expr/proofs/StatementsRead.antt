@@ -112,11 +112,8 @@ statements_rule : (r : Levels) (ts : List Spelled) → read r Statements ts ≡ 
 statements_rule r ts = sym (laws.rule_read all_seen Statements r refl refl ts)
 
 -- there is no room, or no statement comes
-pub statements_shut : (r : Levels) (ts : List Spelled) → open_to r ≡ false → read r Statements ts ≡ Done ([], 0) ts
-statements_shut r ts o = statements_rule r ts ∙ ap (found_as statements_from) (room_shut (statement_kinds r) (all_of r) read_nothing (open_to r) ts o)
-
-pub statements_none : (r : Levels) (ts : List Spelled) → has (statement_kinds r) (head_sort ts) ≡ false → read r Statements ts ≡ Done ([], 0) ts
-statements_none r ts h = statements_rule r ts ∙ ap (found_as statements_from) (room_not (statement_kinds r) (all_of r) read_nothing (open_to r) ts (and_second (open_to r) (has (statement_kinds r) (head_sort ts)) h))
+pub statements_not : (r : Levels) (ts : List Spelled) → and (open_to r) (has (statement_kinds r) (head_sort ts)) ≡ false → read r Statements ts ≡ Done ([], 0) ts
+statements_not r ts h = statements_rule r ts ∙ ap (found_as statements_from) (room_not (statement_kinds r) (all_of r) read_nothing (open_to r) ts h)
 
 some_come : (r : Levels) → open_to r ≡ true → (ts : List Spelled) → has (statement_kinds r) (head_sort ts) ≡ true → read r Statements ts ≡ found_as listed_view (all_of r ts)
 some_come r o ts h =
@@ -279,12 +276,6 @@ module _ (r : Levels) (o : open_to r ≡ true) (ts : List Spelled) where
       ∙ (ap (found_as by_return) (either_right (return_word ∷ []) (read r Return_of) (or_opening r) ts e ∙ ap (found_as inr) (either_right (prefixed_l ∷ []) (token (prefixed_l ∷ [])) (read r Opening) ts f))
       ∙ (found_as_as by_return inr (found_as inr (read r Opening ts)) ∙ found_as_as by_opening inr (read r Opening ts)))
 
-  -- the same, where there is no room for a statement that nests
-  pub statement_low : fits r ≡ false → has (return_word ∷ []) (head_sort ts) ≡ false → has (prefixed_l ∷ []) (head_sort ts) ≡ false → read r Statement ts ≡ found_as opening_from (read r Opening ts)
-  statement_low f e g =
-      statement_opens (and_first (fits r) (has val_kinds (head_sort ts)) f) (and_first (fits r) (has (if_word ∷ []) (head_sort ts)) f)
-      (and_first (fits r) (has (while_word ∷ []) (head_sort ts)) f) (and_first (fits r) (has (for_word ∷ []) (head_sort ts)) f) e g
-
 -- the type that is ascribed, or none
 
 abbrev read_colon : Levels → List Spelled → Found Spelled (Spelled × Tall TypeTerm)
@@ -427,17 +418,10 @@ module _ (r : Levels) (o : open_to r ≡ true) (ts : List Spelled) where
   return_halts rest a = ap (found_as return_from) (return_rule ∙ both_first (token (return_word ∷ [])) (maybe_value r) ts rest a)
 
   module _ (us : List Spelled) (w : Spelled) (a : read_token (is sort (return_word ∷ [])) ts ≡ Done w us) where
-    return_alone : and (fits r) (has (expression_kinds (deeper r)) (head_sort us)) ≡ false → found_as return_from (read r Return_of ts) ≡ Done (stmt (stmt_kind.Return None) w.span, 1) us
+    -- no expression is behind it, or there is no room for one
+    pub return_alone : and (fits r) (has (expression_kinds (deeper r)) (head_sort us)) ≡ false → found_as return_from (read r Return_of ts) ≡ Done (stmt (stmt_kind.Return None) w.span, 1) us
     return_alone h =
         ap (found_as return_from) (return_rule ∙ both_done (token (return_word ∷ [])) (maybe_value r) ts w us (inr tt) us a (room_not (expression_kinds (deeper r)) (read (deeper r) Expression) read_nothing (fits r) us h))
-
-    -- no expression is behind it
-    pub return_plain : has (expression_kinds (deeper r)) (head_sort us) ≡ false → found_as return_from (read r Return_of ts) ≡ Done (stmt (stmt_kind.Return None) w.span, 1) us
-    return_plain h = return_alone (and_second (fits r) (has (expression_kinds (deeper r)) (head_sort us)) h)
-
-    -- there is no room for one
-    pub return_shut : fits r ≡ false → found_as return_from (read r Return_of ts) ≡ Done (stmt (stmt_kind.Return None) w.span, 1) us
-    return_shut f = return_alone (and_first (fits r) (has (expression_kinds (deeper r)) (head_sort us)) f)
 
     -- one begins, and is no whole one
     pub return_stops : (rest : List Spelled) → fits r ≡ true → has (expression_kinds (deeper r)) (head_sort us) ≡ true → read (deeper r) Expression us ≡ Stopped rest → found_as return_from (read r Return_of ts) ≡ Stopped rest

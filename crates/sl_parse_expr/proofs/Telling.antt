@@ -1,5 +1,5 @@
 -- What is told of a whole follows from what is told of its parts.
-use Rattle.std.proofs.Common.{◌≡◌, ℕ, suc, ◌<◌, ◌≤◌, List, [], ◌∷◌, length, map, get_or, refl, sym, ap, ◌∙◌, inl, inr, Bool, true, false, if◌then◌else◌, arith, length-append}
+use Rattle.std.proofs.Common.{◌≡◌, ℕ, suc, ◌<◌, ◌≤◌, List, [], ◌∷◌, length, map, get_or, refl, sym, ap, ◌∙◌, inl, inr, ◌⊎◌, Bool, true, false, if◌then◌else◌, arith, length-append}
 use Rattle.std.specs.declared.result.Result.{Result}
 use Rattle.std.specs.declared.result.Result.TheVariants.{Err}
 use Rattle.std.specs.Result.{IsErrAnd}
@@ -8,7 +8,7 @@ use Rattle.sl_text.specs.declared.token.Token.{Token as TokenOf}
 use Rattle.sl_grammar.specs.Phrase.{Found, Done, Stopped, IsRead, found_then, read_both, read_either, read_token}
 use Rattle.sl_grammar.specs.Law.{found_as, read_then}
 use Rattle.sl_grammar.specs.Guard.{guard}
-use Rattle.sl_grammar.specs.Grammar.{is, has}
+use Rattle.sl_grammar.specs.Grammar.{is, has, and}
 use Rattle.sl_grammar.specs.Growing.{grown}
 use Rattle.sl_grammar.proofs.Growing.{grown_end, grown_shut, grown_other, grown_stops, grown_step}
 use Rattle.std.specs.Prelude.{eqb}
@@ -94,7 +94,20 @@ module _ {X Y : Type 0} (ks : List ℕ) (l : List Spelled → Found Spelled X) (
   room_right true ts h = either_right ts h
   room_right false ts h = room_shut false ts refl
 
+-- one of two tests fails, or of three
+pub either_fails : (a b : Bool) → and a b ≡ false → (b ≡ false) ⊎ (a ≡ false)
+either_fails true b e = inl e
+either_fails false b e = inr refl
+
+pub any_fails : (a b c : Bool) → and a (and b c) ≡ false → (c ≡ false) ⊎ ((b ≡ false) ⊎ (a ≡ false))
+any_fails true true c e = inl e
+any_fails true false c e = inr (inl refl)
+any_fails false b c e = inr (inr refl)
+
 -- one token, by the sort of the first
+pub token_taken : (ks : List ℕ) (ts more : List Spelled) (k : Spelled) → ts ≡ k ∷ more → has ks (head_sort ts) ≡ true → read_token (is sort ks) ts ≡ Done k more
+token_taken ks ts more k e h = let s : has ks (sort k) ≡ true = rw (e) at h in rw (e, s)
+
 pub token_stops : (ks : List ℕ) (ts : List Spelled) → has ks (head_sort ts) ≡ false → read_token (is sort ks) ts ≡ Stopped ts
 token_stops ks [] h = refl
 token_stops ks (k ∷ ts) h = rw (h)

@@ -8,6 +8,8 @@ pub mod Values
 pub mod Grammar
 -- what a function tells of what a reader finds
 pub mod Told
+-- what is told of arguments
+pub mod Applied
 -- what the public calls answer: the tree of the longest front, or the rule that it breaks (`Answers`)
 pub mod Answers
 -- what a second reader tells

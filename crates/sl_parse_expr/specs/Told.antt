@@ -1,5 +1,5 @@
 -- What a function tells of what a reader finds.
-use Rattle.std.specs.Prelude.{◌≡◌, ℕ, suc, ◌<◌, ◌≤◌, ◌+◌, ◌*◌, List, [], ◌∷◌, ◌++◌, map, drop, true, max, Option, None, ◌⊎◌}
+use Rattle.std.specs.Prelude.{◌≡◌, ℕ, suc, ◌<◌, ◌≤◌, ◌+◌, ◌*◌, ◌-◌, List, [], ◌∷◌, ◌++◌, map, drop, true, max, Option, None, ◌⊎◌}
 use Rattle.std.proofs.Common.{inl, inr}
 use Rattle.std.specs.declared.result.Result.{Result}
 use Rattle.std.specs.declared.result.Result.TheVariants.{Ok, Err}
@@ -57,6 +57,14 @@ TellsThree bytes tokens f (Err stop.Mem) = Unit {0}
 -- what was read lies behind one index, up to another, and has fewer levels than twice its tokens
 abbrev pub Lies : ℕ → ℕ → ℕ → ℕ → Type 0
 Lies at len levels next = (at < next) × (next ≤ len) × (levels + 2 * at < 2 * next)
+
+-- the same, where it may have as many levels as twice its tokens, as a statement may
+abbrev pub Stands : ℕ → ℕ → ℕ → ℕ → Type 0
+Stands at len levels next = (at < next) × (next ≤ len) × (levels + 2 * at ≤ 2 * next)
+
+-- what was read behind an index goes on a phrase of so many levels that was read before it
+abbrev pub Continues : ℕ → ℕ → ℕ → ℕ → ℕ → Type 0
+Continues at len before levels next = (at ≤ next) × (next ≤ len) × (levels ≤ 1 + max before (2 * (next - at)))
 
 -- what the forms of the rules read
 abbrev pub reader : Readers Spelled T_of

@@ -1,15 +1,24 @@
 // Trees, from their parts.
-ghost use Rattle.std.specs.Prelude.{◌≡◌, ◌<◌, ◌^◌, IfOk, true};
-ghost use Rattle.sl_tree.specs.Sorts.{spelled, within};
-ghost use Rattle.sl_tree.specs.WellShaped.{expr, field, join, is_name, is_number};
+ghost use Rattle.std.specs.Prelude.{◌≡◌, ◌==◌, ◌<◌, ◌^◌, IfOk, true};
+ghost use Rattle.sl_tree.specs.Sorts.{spelled, within, sort, var_word, to_name};
+ghost use Rattle.sl_tree.specs.WellShaped.{expr, stmt, field, join, is_name, is_number};
 ghost use Rattle.sl_tree.specs.declared.tree.ExprKind.TheVariants as expr_kind;
+ghost use Rattle.sl_tree.specs.declared.tree.StmtKind.TheVariants as stmt_kind;
 ghost use Rattle.sl_parse_expr.specs.Values.{span_of, token_expr, name_text, minus_to};
 ghost use Rattle.sl_parse_expr.specs.Told.{spanned};
+ghost use Rattle.sl_parse_expr.specs.Applied.{applied};
 
-use crate::tokens::{THIS, is_name, join, lexeme, sort, text};
+use crate::tokens::{THIS, TO_NAME, VAR, is_name, join, lexeme, sort, text};
 use sl_text::{Boxed, Kind, Mem, Row, Span, Text, Token};
-use sl_tree::{Case, Expr, ExprKind, Field, Lexeme};
+use sl_tree::{Case, Expr, ExprKind, Field, Lexeme, Stmt, StmtKind, TypeTerm};
 use std::alloc::Global;
+
+/// Arguments: values, or fields.
+#[derive(Drop)]
+pub enum Arguments {
+    Values(Row<Expr>),
+    Fields(Row<Field>),
+}
 
 /// A token that is an expression by itself.
 #[tactic(auto, unfolding(crate::specs::Values::token_expr, sl_tree::specs::Sorts::spelled, sl_tree::specs::WellShaped::expr))]
@@ -25,6 +34,16 @@ pub fn token_expr(alloc: Global, bytes: &[u8], token: Token) -> Result<Expr, Mem
         ExprKind::Literal(false, lexeme(alloc, bytes, token)?)
     };
     let span = token.span;
+    Ok(Expr { kind, span })
+}
+
+/// `(EXPR)`
+#[tactic(auto, unfolding(sl_tree::specs::WellShaped::expr))]
+pub fn paren_of(alloc: Global, opening: Span, of: Expr, close: Span) -> Result<Expr, Mem>
+    ensures { IfOk result (λ e. e ≡ expr (expr_kind.Paren of) (join opening close)) }
+{
+    let span = join(opening, close);
+    let kind = ExprKind::Paren(Boxed::new(alloc, of)?);
     Ok(Expr { kind, span })
 }
 
@@ -123,6 +142,30 @@ pub fn select_of(alloc: Global, bytes: &[u8], left: Expr, name: Token) -> Result
     Ok(Expr { kind, span })
 }
 
+/// `EXPR[TYPE, ..]`
+#[tactic(auto, unfolding(sl_tree::specs::WellShaped::expr))]
+pub fn given_of(alloc: Global, left: Expr, types: Row<TypeTerm>, close: Span) -> Result<Expr, Mem>
+    ensures { IfOk result (λ e. e ≡ expr (expr_kind.Given left types) (join (span_of left) close)) }
+{
+    let span = join(left.span, close);
+    let kind = ExprKind::Given(Boxed::new(alloc, left)?, types);
+    Ok(Expr { kind, span })
+}
+
+/// `EXPR(ARGUMENTS)`
+#[tactic(auto, unfolding(sl_tree::specs::WellShaped::expr))]
+pub fn applied_of(alloc: Global, left: Expr, arguments: Arguments, close: Span) -> Result<Expr, Mem>
+    ensures { IfOk result (λ e. e ≡ applied left arguments close) }
+{
+    let span = join(left.span, close);
+    let left = Boxed::new(alloc, left)?;
+    let kind = match arguments {
+        Arguments::Values(values) => ExprKind::Apply(left, values),
+        Arguments::Fields(fields) => ExprKind::Update(left, fields),
+    };
+    Ok(Expr { kind, span })
+}
+
 /// `if (EXPR) EXPR else EXPR`
 #[tactic(auto, unfolding(sl_tree::specs::WellShaped::expr))]
 pub fn if_of(alloc: Global, first: Span, condition: Expr, yes: Expr, no: Expr) -> Result<Expr, Mem>
@@ -156,4 +199,50 @@ pub fn first_field(name: Expr, value: Expr) -> Result<Field, Mem>
         ExprKind::Name(name) => Ok(Field { name, value }),
         _ => unreachable!(),
     }
+}
+
+/// `NAME = EXPR`
+#[tactic(auto, unfolding(sl_tree::specs::WellShaped::field))]
+pub fn field_of(alloc: Global, bytes: &[u8], name: Token, value: Expr) -> Result<Field, Mem>
+    ensures { IfOk result (λ f. f ≡ field (within bytes.now name.span) value) }
+{
+    let name = text(alloc, bytes, name)?;
+    Ok(Field { name, value })
+}
+
+/// `val NAME: TYPE = EXPR`, or `var`.
+#[tactic(auto, unfolding(sl_tree::specs::WellShaped::stmt))]
+pub fn let_of(
+    alloc: Global,
+    bytes: &[u8],
+    word: Token,
+    name: Token,
+    kind: Option<TypeTerm>,
+    value: Expr,
+) -> Result<Stmt, Mem>
+    ensures { IfOk result (λ s. s ≡ stmt (stmt_kind.Let (sort (spelled bytes.now word) == var_word) (within bytes.now name.span) kind value) (join word.span (span_of value))) }
+{
+    let span = join(word.span, value.span);
+    let name = text(alloc, bytes, name)?;
+    let kind = StmtKind::Let(sort(bytes, word) == VAR, name, kind, value);
+    Ok(Stmt { kind, span })
+}
+
+/// `for (NAME <- EXPR until EXPR) { STATEMENTS }`, or `to`.
+#[tactic(auto, unfolding(sl_tree::specs::WellShaped::stmt))]
+pub fn for_of(
+    alloc: Global,
+    bytes: &[u8],
+    name: Token,
+    from: Expr,
+    word: Token,
+    to: Expr,
+    body: Row<Stmt>,
+    span: Span,
+) -> Result<Stmt, Mem>
+    ensures { IfOk result (λ s. s ≡ stmt (stmt_kind.For (within bytes.now name.span) from (sort (spelled bytes.now word) == to_name) to body) span) }
+{
+    let name = text(alloc, bytes, name)?;
+    let kind = StmtKind::For(name, from, sort(bytes, word) == TO_NAME, to, body);
+    Ok(Stmt { kind, span })
 }

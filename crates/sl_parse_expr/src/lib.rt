@@ -1,18 +1,16 @@
-//! Types are read: `type_term` finds the longest front of some tokens with which a type begins, and its tree, or the first token from
-//! which no type goes on. `specs/` has the grammar of patterns, expressions and statements too. Patterns, statements that are skipped, and
-//! trees of parts are read and made for the calls of expressions and statements, which are to follow.
+//! Types, expressions and blocks of statements are read: `type_term`, `expr` and `block` find the longest front of some tokens with which
+//! such a phrase begins, and its tree, or the first token from which none goes on. `specs/` has the grammar and what is answered.
 #![tactic(auto)]
 
 mod answer;
 mod build;
+mod expressions;
 mod parse;
 mod patterns;
 mod room;
 mod skips;
+mod statements;
 mod tokens;
 mod types;
 
-pub use parse::type_term;
-
-#[cfg(test)]
-mod tests;
+pub use parse::{block, expr, type_term};

@@ -1,18 +1,20 @@
-// The public call.
+// The public calls: each reads a phrase within the room that there is, and where that stops a second time without a limit, up to the
+// token that stopped it.
 ghost use Rattle.std.specs.Prelude.{◌≡◌, ◌≤◌, suc, None, length, take};
-ghost use Rattle.sl_tree.specs.WellShaped.{IsType};
-ghost use Rattle.sl_parse_expr.specs.Names.{Type_term};
+ghost use Rattle.sl_grammar.specs.Law.{found_as};
+ghost use Rattle.sl_tree.specs.WellShaped.{IsType, IsBlock};
+ghost use Rattle.sl_parse_expr.specs.Names.{Type_term, Expression, Block};
 ghost use Rattle.sl_parse_expr.specs.Grammar.{read};
-ghost use Rattle.sl_parse_expr.specs.Told.{behind};
-ghost use Rattle.sl_parse_expr.specs.Answers.{Answers};
+ghost use Rattle.sl_parse_expr.specs.Told.{behind, block_view};
+ghost use Rattle.sl_parse_expr.specs.Answers.{Answers, AnyExpr};
 ghost use Rattle.sl_parse_expr.specs.Went.{TellsWent};
 
 use crate::answer::{Went, refused, room_at, up_to};
 use crate::room::open_to;
 use crate::tokens::{Stop, goes_on};
-use crate::types;
-use sl_text::{Fault, Token};
-use sl_tree::TypeTerm;
+use crate::{expressions, statements, types};
+use sl_text::{Fault, Row, Token};
+use sl_tree::{Expr, Stmt, TypeTerm};
 use std::alloc::Global;
 
 /// A type, and the index of the token behind it.
@@ -67,6 +69,113 @@ fn free_type(
     let seen = up_to(tokens, last);
     match types::type_term(alloc, bytes, seen, at, None) {
         Ok((_, _, next)) => Ok(Went { whole: true, next }),
+        Err(Stop::At(stop)) => Ok(Went {
+            whole: false,
+            next: stop.min(seen.len()),
+        }),
+        Err(Stop::Mem) => Err(Fault::Mem),
+    }
+}
+
+/// An expression, and the index of the token behind it.
+pub fn expr(
+    alloc: Global,
+    file: u32,
+    bytes: &[u8],
+    tokens: &[Token],
+    at: usize,
+    depth: u32,
+) -> Result<(Expr, usize), Fault>
+    requires in_bounds { at ≤ length tokens.now }
+    requires small { length bytes.now ≤ 4194304 }
+    ensures { Answers AnyExpr file bytes.now tokens.now at depth result }
+{
+    let room = room_at(depth);
+    if !open_to(room) {
+        let went = free_expr(alloc, bytes, tokens, at, at)?;
+        return Err(refused(file, bytes, tokens, at, went));
+    }
+    match expressions::expression(alloc, bytes, tokens, at, room) {
+        Ok((of, _, next)) => {
+            if goes_on(bytes, tokens, next) {
+                let went = free_expr(alloc, bytes, tokens, at, next)?;
+                if went.next > next {
+                    return Err(refused(file, bytes, tokens, next, went));
+                }
+            }
+            Ok((of, next))
+        }
+        Err(Stop::At(stop)) => {
+            let last = stop.min(tokens.len());
+            let went = free_expr(alloc, bytes, tokens, at, last)?;
+            Err(refused(file, bytes, tokens, last, went))
+        }
+        Err(Stop::Mem) => Err(Fault::Mem),
+    }
+}
+
+/// Where an expression goes that may nest as deep as it likes, up to an index.
+fn free_expr(
+    alloc: Global,
+    bytes: &[u8],
+    tokens: &[Token],
+    at: usize,
+    last: usize,
+) -> Result<Went, Fault>
+    requires in_bounds { at ≤ length tokens.now }
+    requires ordered { at ≤ last }
+    ensures { TellsWent bytes.now (take (suc last) tokens.now) (read None Expression (behind bytes.now (take (suc last) tokens.now) at)) result }
+{
+    let seen = up_to(tokens, last);
+    match expressions::expression(alloc, bytes, seen, at, None) {
+        Ok((_, _, next)) => Ok(Went { whole: true, next }),
+        Err(Stop::At(stop)) => Ok(Went {
+            whole: false,
+            next: stop.min(seen.len()),
+        }),
+        Err(Stop::Mem) => Err(Fault::Mem),
+    }
+}
+
+/// Statements in braces, and the index of the token behind them.
+pub fn block(
+    alloc: Global,
+    file: u32,
+    bytes: &[u8],
+    tokens: &[Token],
+    at: usize,
+    depth: u32,
+) -> Result<(Row<Stmt>, usize), Fault>
+    requires in_bounds { at ≤ length tokens.now }
+    requires small { length bytes.now ≤ 4194304 }
+    ensures { Answers IsBlock file bytes.now tokens.now at depth result }
+{
+    match statements::block(alloc, bytes, tokens, at, room_at(depth)) {
+        Ok((of, _, _, next)) => Ok((of, next)),
+        Err(Stop::At(stop)) => {
+            let last = stop.min(tokens.len());
+            let went = free_block(alloc, bytes, tokens, at, last)?;
+            Err(refused(file, bytes, tokens, last, went))
+        }
+        Err(Stop::Mem) => Err(Fault::Mem),
+    }
+}
+
+/// Where a block goes that may nest as deep as it likes, up to an index.
+fn free_block(
+    alloc: Global,
+    bytes: &[u8],
+    tokens: &[Token],
+    at: usize,
+    last: usize,
+) -> Result<Went, Fault>
+    requires in_bounds { at ≤ length tokens.now }
+    requires ordered { at ≤ last }
+    ensures { TellsWent bytes.now (take (suc last) tokens.now) (found_as block_view (read None Block (behind bytes.now (take (suc last) tokens.now) at))) result }
+{
+    let seen = up_to(tokens, last);
+    match statements::block(alloc, bytes, seen, at, None) {
+        Ok((_, _, _, next)) => Ok(Went { whole: true, next }),
         Err(Stop::At(stop)) => Ok(Went {
             whole: false,
             next: stop.min(seen.len()),

@@ -1,10 +1,11 @@
 // Tokens, one by one.
-ghost use Rattle.std.specs.Prelude.{◌≡◌, ◌∷◌, ◌++◌, [], ◌<◌, ◌≤◌, length, bytes_eq, IfOk};
+ghost use Rattle.std.specs.Prelude.{◌≡◌, ◌∷◌, ◌++◌, [], ◌<◌, ◌≤◌, ℕ, suc, List, length, bytes_eq, IfOk};
 ghost use Rattle.sl_grammar.specs.Phrase.{read_token};
-ghost use Rattle.sl_grammar.specs.Grammar.{is as passes, has};
+ghost use Rattle.sl_grammar.specs.Grammar.{is as passes, has, and};
 ghost use Rattle.sl_tree.specs.WellShaped.{names, literals, operators, join};
 ghost use Rattle.sl_parse_expr.specs.Grammar.{primary_kinds, prefix_kinds, expression_kinds, statement_kinds, suffix_kinds, after_kinds};
-ghost use Rattle.sl_tree.specs.Sorts.{left_parenthesis, right_parenthesis, left_bracket, right_bracket, left_brace, right_brace, underscore, minus, this_word, until_name, to_name, within, spelled, lexeme, sort, sort_of, sort_of_mark, sort_of_word, sort_of_name, sort_of_operator, sort_of_prefixed, sort_of_separator};
+ghost use Rattle.sl_tree.specs.Sorts.{left_parenthesis, right_parenthesis, left_bracket, right_bracket, left_brace, right_brace, underscore, minus, exclamation, tilde, val_word, var_word, this_word, until_name, to_name, within, spelled, lexeme, sort, sort_of, sort_of_mark, sort_of_word, sort_of_name, sort_of_operator, sort_of_prefixed, sort_of_separator};
+ghost use Rattle.sl_parse_expr.specs.Names.{fits};
 ghost use Rattle.sl_parse_expr.specs.Told.{behind, head_sort, TellsToken};
 
 use crate::room::{Room, deeper, fits};
@@ -374,6 +375,21 @@ pub fn expect(bytes: &[u8], tokens: &[Token], at: usize, wanted: u8) -> Result<T
     }
 }
 
+/// Whether the token at an index is of a sort, and there is room for what it begins.
+pub fn comes(bytes: &[u8], tokens: &[Token], at: usize, wanted: u8, room: Room) -> bool
+    ensures { result ≡ and (fits room) (has (wanted ∷ []) (head_sort (behind bytes.now tokens.now at))) }
+{
+    fits(room) && peek(bytes, tokens, at) == wanted
+}
+
+/// The token at an index.
+pub fn token_at(tokens: &[Token], at: usize) -> Token
+    requires { at < length tokens.now }
+    ensures { (bytes : List ℕ) → behind bytes tokens.now at ≡ spelled bytes result ∷ behind bytes tokens.now (suc at) }
+{
+    tokens[at]
+}
+
 /// Whether a sort is that of an identifier.
 pub fn is_name(sort: u8) -> bool
     ensures { result ≡ has names sort }
@@ -464,6 +480,30 @@ fn is_token_expr(sort: u8) -> bool
     is_literal(sort) || is_name(sort) || sort == THIS
 }
 
+/// The token at an index, where it is an expression by itself.
+pub fn expect_token_expr(bytes: &[u8], tokens: &[Token], at: usize) -> Result<Token, Stop>
+    ensures told { TellsToken bytes.now tokens.now at (read_token (passes sort (literals ++ names ++ this_word ∷ [])) (behind bytes.now tokens.now at)) result }
+    ensures in_bounds { IfOk result (λ _. at < length tokens.now) }
+{
+    match tokens.get(at) {
+        None => Err(Stop::At(at)),
+        Some(token) => {
+            if is_token_expr(sort(bytes, *token)) {
+                Ok(*token)
+            } else {
+                Err(Stop::At(at))
+            }
+        }
+    }
+}
+
+/// Whether a sort is that of `!` or `~`.
+pub fn is_sign(sort: u8) -> bool
+    ensures { result ≡ has (exclamation ∷ tilde ∷ []) sort }
+{
+    sort == EXCLAMATION || sort == TILDE
+}
+
 /// Whether a sort is that of what begins an operand without a prefix.
 fn begins_primary(sort: u8, room: Room) -> bool
     ensures { result ≡ has (primary_kinds room) sort }
@@ -541,6 +581,30 @@ pub fn expect_range(bytes: &[u8], tokens: &[Token], at: usize) -> Result<Token, 
         None => Err(Stop::At(at)),
         Some(token) => {
             if is_range(sort(bytes, *token)) {
+                Ok(*token)
+            } else {
+                Err(Stop::At(at))
+            }
+        }
+    }
+}
+
+/// Whether a sort is that of `val` or `var`.
+pub fn is_declaring(sort: u8) -> bool
+    ensures { result ≡ has (val_word ∷ var_word ∷ []) sort }
+{
+    sort == VAL || sort == VAR
+}
+
+/// `val` or `var`.
+pub fn expect_declaring(bytes: &[u8], tokens: &[Token], at: usize) -> Result<Token, Stop>
+    ensures told { TellsToken bytes.now tokens.now at (read_token (passes sort (val_word ∷ var_word ∷ [])) (behind bytes.now tokens.now at)) result }
+    ensures in_bounds { IfOk result (λ _. at < length tokens.now) }
+{
+    match tokens.get(at) {
+        None => Err(Stop::At(at)),
+        Some(token) => {
+            if is_declaring(sort(bytes, *token)) {
                 Ok(*token)
             } else {
                 Err(Stop::At(at))

@@ -1,0 +1,153 @@
+// The parser is asked.
+use crate::printing::page::{BASE, Page, behind_header};
+use crate::printing::trees::{push_expr, push_stmts};
+use crate::printing::types::push_type;
+use sl_parse_expr::{block, expr, type_term};
+use sl_text::{Broken, Fault, Row, Rule, Span, Token};
+use sl_token::tokens;
+use std::alloc::Global;
+use std::test::Fail;
+
+/// The header line. A row shows what stands behind it.
+const HEADER: &[u8] = b"// #Sireum\n";
+
+/// The number of a file.
+pub const FILE: u32 = 7;
+
+/// The greatest length of a file.
+const MOST: usize = 4_194_304;
+
+/// Which call is asked.
+#[derive(Clone, Copy)]
+pub enum Phrase {
+    Type,
+    Expr,
+    Block,
+}
+
+/// Where the phrase begins: the number of its file, the index of its first token, and how many nodes it stands in.
+#[derive(Clone, Copy)]
+pub struct Place {
+    pub file: u32,
+    pub at: usize,
+    pub depth: u32,
+}
+
+/// The first token of the file, in so many nodes.
+pub fn first(depth: u32) -> Place {
+    Place {
+        file: FILE,
+        at: 0,
+        depth,
+    }
+}
+
+/// The bytes of a file, and its tokens.
+#[derive(Drop)]
+pub struct Source {
+    bytes: Vec<u8>,
+    tokens: Row<Token>,
+}
+
+impl Source {
+    /// The file of this number that has this text behind the header line.
+    pub fn new(alloc: Global, file: u32, text: &str) -> Result<Source, Fail> {
+        let mut bytes = Vec::from_slice(alloc, HEADER)?;
+        bytes.extend_from_slice(text.as_bytes())?;
+        match tokens(alloc, file, bytes.as_slice()) {
+            Ok(tokens) => Ok(Source { bytes, tokens }),
+            Err(_) => Err("no tokens".into()),
+        }
+    }
+
+    /// How many tokens there are.
+    pub fn count(&self) -> usize {
+        self.tokens.len()
+    }
+
+    /// Whether a span is that of a token, or the end of the file.
+    fn has(&self, file: u32, span: Span) -> bool {
+        for token in self.tokens.as_slice() {
+            if token.span == span {
+                return true;
+            }
+        }
+        span.file == file && span.from as usize == self.bytes.len() && span.to == span.from
+    }
+
+    /// What is answered: the tree and how many tokens are left, or the rule that is broken and the place.
+    pub fn told(&self, alloc: Global, phrase: Phrase, place: Place) -> Result<String, Fail> {
+        let mut page = Page::new(alloc, place.file);
+        match self.asked(alloc, phrase, place, &mut page)? {
+            Ok(next) => {
+                let left = match self.tokens.len().checked_sub(next) {
+                    Some(left) => format!(in alloc; " rest {left}")?,
+                    None => format!(in alloc; " beyond")?,
+                };
+                page.push(left.as_str())?;
+                Ok(page.into_text())
+            }
+            Err(Fault::Broken(Broken { rule, span })) => {
+                if !self.has(place.file, span) {
+                    return Err("no token's span".into());
+                }
+                refusal(alloc, place.file, rule, span)
+            }
+            Err(Fault::Mem) => Err("no memory".into()),
+        }
+    }
+
+    /// Prints the tree, and gives the index behind it.
+    fn asked(
+        &self,
+        alloc: Global,
+        phrase: Phrase,
+        place: Place,
+        page: &mut Page,
+    ) -> Result<Result<usize, Fault>, Fail> {
+        let Place { file, at, depth } = place;
+        let bytes = self.bytes.as_slice();
+        let all = self.tokens.as_slice();
+        if bytes.len() > MOST || at > all.len() {
+            return Err("no such place".into());
+        }
+        match phrase {
+            Phrase::Type => match type_term(alloc, file, bytes, all, at, depth) {
+                Ok((of, next)) => {
+                    push_type(page, &of)?;
+                    Ok(Ok(next))
+                }
+                Err(fault) => Ok(Err(fault)),
+            },
+            Phrase::Expr => match expr(alloc, file, bytes, all, at, depth) {
+                Ok((of, next)) => {
+                    push_expr(page, &of)?;
+                    Ok(Ok(next))
+                }
+                Err(fault) => Ok(Err(fault)),
+            },
+            Phrase::Block => match block(alloc, file, bytes, all, at, depth) {
+                Ok((of, next)) => {
+                    page.push("{")?;
+                    push_stmts(page, of.as_slice())?;
+                    page.push("}")?;
+                    Ok(Ok(next))
+                }
+                Err(fault) => Ok(Err(fault)),
+            },
+        }
+    }
+}
+
+/// The rule that is broken and the place, counted from the end of the header line.
+fn refusal(alloc: Global, file: u32, rule: Rule, span: Span) -> Result<String, Fail> {
+    Ok(match behind_header(file, span) {
+        Some((from, _)) => format!(in alloc; "{rule} at {from}")?,
+        None => format!(in alloc; "{rule} elsewhere")?,
+    })
+}
+
+/// What is answered of a text.
+pub fn told(alloc: Global, phrase: Phrase, text: &str, depth: u32) -> Result<String, Fail> {
+    Source::new(alloc, FILE, text)?.told(alloc, phrase, first(depth))
+}

@@ -1,0 +1,6 @@
+// The tables, by what is read.
+pub mod blocks;
+pub mod expressions;
+pub mod odd;
+pub mod patterns;
+pub mod types;
