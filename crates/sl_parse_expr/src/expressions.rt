@@ -1,5 +1,5 @@
-// Expressions. Where a part stops, the trees that were read before it are dropped by name: a proof then doesn't follow all that they
-// may be made of.
+// Expressions. Where a part stops, single trees that were read before it are dropped by name, not by a question mark: a proof then
+// doesn't follow all that they may be made of.
 ghost use Rattle.std.specs.Prelude.{◌≡◌, ◌∷◌, [], ◌<◌, ◌≤◌, ◌+◌, ◌*◌, length, IfOk, true};
 ghost use Rattle.sl_grammar.specs.Law.{found_as};
 ghost use Rattle.sl_grammar.specs.Grammar.{has, and};

@@ -17,7 +17,12 @@ use sl_text::{Fault, Row, Token};
 use sl_tree::{Expr, Stmt, TypeTerm};
 use std::alloc::Global;
 
-/// A type, and the index of the token behind it.
+/// Reads a type. `at` is the index of its first token, at most the number of tokens. `file` is the number of the file, as in the spans
+/// of the tokens. `depth` is how many nodes stand around the type. What is answered is the tree of the longest front of the tokens with
+/// which a type begins, and the index of the token behind it.
+///
+/// The errors are rule G1 at the token from which no type goes on, or with an empty span at the end of the bytes; rule G6 at the token
+/// from which each type nests deeper than 64 nodes, the `depth` around it counted; and want of memory.
 pub fn type_term(
     alloc: Global,
     file: u32,
@@ -77,7 +82,12 @@ fn free_type(
     }
 }
 
-/// An expression, and the index of the token behind it.
+/// Reads an expression. `at` is the index of its first token, at most the number of tokens. `file` is the number of the file, as in the
+/// spans of the tokens. `depth` is how many nodes stand around the expression. What is answered is the tree of the longest front of the
+/// tokens with which an expression begins, and the index of the token behind it.
+///
+/// The errors are rule G1 at the token from which no expression goes on, or with an empty span at the end of the bytes; rule G6 at the
+/// token from which each expression nests deeper than 64 nodes, the `depth` around it counted; and want of memory.
 pub fn expr(
     alloc: Global,
     file: u32,
@@ -137,7 +147,12 @@ fn free_expr(
     }
 }
 
-/// Statements in braces, and the index of the token behind them.
+/// Reads a block, statements in braces. `at` is the index of its first token, at most the number of tokens. `file` is the number of the
+/// file, as in the spans of the tokens. `depth` is how many nodes stand around the block, which is no node itself. What is answered are
+/// the statements of the longest front of the tokens with which a block begins, and the index of the token behind it.
+///
+/// The errors are rule G1 at the token from which no block goes on, or with an empty span at the end of the bytes; rule G6 at the token
+/// from which the statements of each block nest deeper than 64 nodes, the `depth` around it counted; and want of memory.
 pub fn block(
     alloc: Global,
     file: u32,

@@ -1,9 +1,9 @@
 // Phrases that nest, and long ones, made of parts.
 //
 // In a table a line `=HEAD$OPEN$CORE$CLOSE$TAIL` is followed by lines TIMES $ DEPTH $ ANSWER: of HEAD, so many times OPEN, CORE, so
-// many times CLOSE, and TAIL. An answer has the sum of a printed tree for the tree.
+// many times CLOSE, and TAIL. An answer has the checksum of a printed tree for the tree.
 use crate::asking::{Phrase, told};
-use crate::rows::{agrees, fed, number, split, sum_of, text_of};
+use crate::rows::{agrees, checksum_of, fed, number, split, text_of};
 use std::alloc::Global;
 use std::test::Fail;
 
@@ -17,6 +17,7 @@ struct Parts<'a> {
     tail: &'a str,
 }
 
+/// Parts without a text.
 const NOTHING: Parts<'static> = Parts {
     head: "",
     open: "",
@@ -33,6 +34,7 @@ fn cut(line: &str) -> Result<(&str, &str), Fail> {
     }
 }
 
+/// The parts of a line HEAD$OPEN$CORE$CLOSE$TAIL.
 fn read_parts(line: &str) -> Result<Parts<'_>, Fail> {
     let (head, rest) = cut(line)?;
     let (open, rest) = cut(rest)?;
@@ -55,6 +57,7 @@ fn push_times(text: &mut String, part: &str, times: u32) -> Result<(), Fail> {
     Ok(())
 }
 
+/// The phrase of these parts, with so many times OPEN and CLOSE.
 fn built(alloc: Global, parts: Parts<'_>, times: u32) -> Result<String, Fail> {
     let mut text = String::new(alloc);
     text.push_str(parts.head)?;
@@ -65,17 +68,18 @@ fn built(alloc: Global, parts: Parts<'_>, times: u32) -> Result<String, Fail> {
     fed(alloc, text.as_str())
 }
 
-/// An answer with the sum of a tree for the tree.
+/// An answer with the checksum of a tree for the tree.
 fn short(alloc: Global, told: &str) -> Result<String, Fail> {
     Ok(match told.rsplit_once(" rest ") {
         Some((tree, left)) => {
-            let sum = sum_of(0, tree) % 1_000_000;
-            format!(in alloc; "rest {left} sum {sum}")?
+            let checksum = checksum_of(0, tree) % 1_000_000;
+            format!(in alloc; "rest {left} checksum {checksum}")?
         }
         None => format!(in alloc; "{told}")?,
     })
 }
 
+/// What is answered of a row of these parts is what it says.
 fn times_hold(alloc: Global, phrase: Phrase, parts: Parts<'_>, line: &str) -> Result<(), Fail> {
     let (times, rest) = split(line)?;
     let (depth, comes) = split(rest)?;

@@ -1,11 +1,11 @@
 // Phrases in which each token is cut off, left out, and replaced by each of some tokens, and phrases with each of them behind the end.
 //
 // In a table a line `$ DEPTH $ TEXT` gives a phrase; the tokens of its text have one blank between them. It is followed by a line
-// TOKEN $ LISTING $ SUM for each of its tokens, and by one for `END`. The listing has all of TOKENS but those for which the answer is G1
-// just at the token that is replaced. Before the first of several with one answer stands that answer, without the tree. The sum is that
-// of all answers, trees and places included.
+// TOKEN $ LISTING $ CHECKSUM for each of its tokens, and by one for `END`. The listing has all of TOKENS but those for which the answer
+// is G1 just at the token that is replaced. Before the first of several with one answer stands that answer, without the tree. The
+// checksum is that of all answers, trees and places included.
 use crate::asking::{Phrase, told};
-use crate::rows::{agrees, fed, number, split, sum_of, text_of};
+use crate::rows::{agrees, checksum_of, fed, number, split, text_of};
 use std::alloc::Global;
 use std::test::Fail;
 
@@ -19,7 +19,7 @@ const TOKENS: &str =
 struct Listing {
     text: String,
     last: String,
-    sum: u32,
+    checksum: u32,
 }
 
 /// An answer without the tree.
@@ -31,17 +31,18 @@ fn short<'a>(told: &'a str) -> &'a str {
 }
 
 impl Listing {
+    /// The listing of no answers.
     fn new(alloc: Global) -> Listing {
         Listing {
             text: String::new(alloc),
             last: String::new(alloc),
-            sum: 0,
+            checksum: 0,
         }
     }
 
     /// Lists a token, with what is answered where it is put for another one. Nothing is listed where that is what mostly comes.
     fn push(&mut self, token: &str, told: &str, mostly: &str) -> Result<(), Fail> {
-        self.sum = sum_of(self.sum, told);
+        self.checksum = checksum_of(self.checksum, told);
         if told == mostly {
             return Ok(());
         }
@@ -94,10 +95,10 @@ fn spot_holds(alloc: Global, phrase: Phrase, spot: &Spot<'_>, line: &str) -> Res
         let told = told(alloc, phrase, text.as_str(), spot.depth)?;
         listing.push(token, told.as_str(), mostly.as_str())?;
     }
-    let sum = listing.sum % 1_000_000;
+    let checksum = listing.checksum % 1_000_000;
     let listed = listing.text.as_str();
     let token = spot.token;
-    let row = format!(in alloc; "{token} $ {listed} $ {sum}")?;
+    let row = format!(in alloc; "{token} $ {listed} $ {checksum}")?;
     agrees(alloc, spot.before, row.as_str(), line)
 }
 
@@ -109,6 +110,7 @@ struct Sample {
     rest: String,
 }
 
+/// The phrase of a line DEPTH $ TEXT, before its first row is read.
 fn read_sample(alloc: Global, line: &str) -> Result<Sample, Fail> {
     let (depth, text) = split(line)?;
     let mut rest = String::new(alloc);

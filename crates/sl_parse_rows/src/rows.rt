@@ -106,6 +106,7 @@ pub fn places_hold(alloc: Global, phrase: Phrase, table: &[u8]) -> Result<(), Fa
     Ok(())
 }
 
+/// What is answered of such a row is what it says.
 fn place_holds(alloc: Global, phrase: Phrase, line: &str) -> Result<(), Fail> {
     let (column, rest) = split(line)?;
     let (at, rest) = split(rest)?;
@@ -120,9 +121,9 @@ fn place_holds(alloc: Global, phrase: Phrase, line: &str) -> Result<(), Fail> {
     agrees(alloc, line, told.as_str(), comes)
 }
 
-/// A sum of the bytes of a text, in which their order counts, that goes on from this one.
-pub fn sum_of(sum: u32, text: &str) -> u32 {
-    let mut all = sum;
+/// A checksum of the bytes of a text, in which their order counts, that goes on from this one.
+pub fn checksum_of(checksum: u32, text: &str) -> u32 {
+    let mut all = checksum;
     for byte in text.as_bytes() {
         all = all.wrapping_mul(31).wrapping_add(u32::from(*byte));
     }

@@ -24,6 +24,7 @@ pub struct Page {
 }
 
 impl Page {
+    /// An empty one.
     pub fn new(alloc: Global, file: u32) -> Page {
         Page {
             alloc,
@@ -32,6 +33,7 @@ impl Page {
         }
     }
 
+    /// Prints a text.
     pub fn push(&mut self, part: &str) -> Result<(), Fail> {
         self.text.push_str(part)?;
         Ok(())
@@ -93,6 +95,7 @@ impl Page {
         Ok(())
     }
 
+    /// What was printed.
     pub fn into_text(self) -> String {
         let Page { text, .. } = self;
         text

@@ -5,6 +5,7 @@ use sl_text::{Span, Text};
 use sl_tree::{Pattern, PatternKind, TypeTerm};
 use std::test::Fail;
 
+/// Prints a pattern.
 #[cycle(patterns)]
 pub fn push_pattern(page: &mut Page, of: &Pattern) -> Result<(), Fail> {
     match &of.kind {

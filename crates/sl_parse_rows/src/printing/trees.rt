@@ -6,6 +6,7 @@ use sl_text::Text;
 use sl_tree::{Case, Else, Expr, ExprKind, Field, Lexeme, Stmt, StmtKind, TypeTerm};
 use std::test::Fail;
 
+/// Prints an expression.
 #[cycle(trees)]
 pub fn push_expr(page: &mut Page, of: &Expr) -> Result<(), Fail> {
     match &of.kind {
@@ -127,6 +128,7 @@ pub fn push_stmts(page: &mut Page, all: &[Stmt]) -> Result<(), Fail> {
     Ok(())
 }
 
+/// Prints a statement.
 #[cycle(trees)]
 fn push_stmt(page: &mut Page, of: &Stmt) -> Result<(), Fail> {
     match &of.kind {

@@ -3,6 +3,7 @@ use super::page::Page;
 use sl_tree::TypeTerm;
 use std::test::Fail;
 
+/// Prints a type.
 #[cycle(types)]
 pub fn push_type(page: &mut Page, of: &TypeTerm) -> Result<(), Fail> {
     page.push_path(of.path.as_slice())?;

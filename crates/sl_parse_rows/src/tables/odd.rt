@@ -4,6 +4,7 @@ use crate::asking::Phrase;
 /// A text, in how many nodes the phrase stands, and what is answered.
 pub type Odd = (Phrase, &'static str, u32, &'static str);
 
+/// The rows.
 #[rattlefmt::skip]
 pub const ODD: &[Odd] = &[
     (Phrase::Type, "é", 0, "é@0-2 rest 0"),

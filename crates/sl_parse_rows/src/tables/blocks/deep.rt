@@ -1,5 +1,6 @@
 // Blocks with the room that they need, and with one level less.
 
+/// Blocks with little room.
 pub const TIGHT: &[u8] = br#"
 {} $ 64 $ {} rest 0
 {;;} $ 64 $ {} rest 0

@@ -1,5 +1,6 @@
 // Blocks that break off or end, with little room.
 
+/// Each text at the depths from 60 to 64, and at 70.
 pub const FRONTS: &[u8] = br#"
 { } $ 60 $ {} rest 0
 { } $ 61 $ {} rest 0

@@ -207,8 +207,8 @@ pub const OPEN: &[u8] = br#"
 /// Behind so many `else if`.
 pub const ELSE: &[u8] = br#"
 ={ $if (a) { } else $if (b) { }$$ }
-61 $ 0 $ rest 0 sum 828639
-62 $ 0 $ rest 0 sum 708673
+61 $ 0 $ rest 0 checksum 828639
+62 $ 0 $ rest 0 checksum 708673
 63 $ 0 $ G6 at 1010
 64 $ 0 $ G6 at 1010
 ={ $if (a) { } else $if (b)$$
@@ -216,12 +216,12 @@ pub const ELSE: &[u8] = br#"
 62 $ 0 $ G1 at 1000
 63 $ 0 $ G6 at 1010
 ={ $if (a) { } else ${ return }$$ }
-62 $ 0 $ rest 0 sum 782039
-63 $ 0 $ rest 0 sum 98524
+62 $ 0 $ rest 0 checksum 782039
+63 $ 0 $ rest 0 checksum 98524
 64 $ 0 $ G6 at 1010
 ={ $if (a) { } else ${ b }$$ }
-61 $ 0 $ rest 0 sum 385366
-62 $ 0 $ rest 0 sum 67031
+61 $ 0 $ rest 0 checksum 385366
+62 $ 0 $ rest 0 checksum 67031
 63 $ 0 $ G6 at 1012
 64 $ 0 $ G6 at 1010
 ={ $if (a) { } else ${$$
@@ -229,8 +229,8 @@ pub const ELSE: &[u8] = br#"
 63 $ 0 $ G1 at 1011
 64 $ 0 $ G6 at 1010
 ={ $if (a) { } else ${ }$$ }
-62 $ 0 $ rest 0 sum 590314
-63 $ 0 $ rest 0 sum 810868
+62 $ 0 $ rest 0 checksum 590314
+63 $ 0 $ rest 0 checksum 810868
 64 $ 0 $ G6 at 1010
 "#;
 
@@ -239,17 +239,17 @@ pub const LONG: &[u8] = br#"
 ={ $if (a) { } else $if (b) { }$$ }
 9999 $ 0 $ G6 at 1010
 ={ a$$$;a$ }
-9999 $ 62 $ rest 0 sum 788749
+9999 $ 62 $ rest 0 checksum 788749
 9999 $ 63 $ G6 at 2
 ={ a$$$;a$
 9999 $ 0 $ G1 at 20001
 ={ a$$$;a$ b }
 9999 $ 0 $ G1 at 20002
 ={ return$$$;return$ }
-9999 $ 63 $ rest 0 sum 810215
+9999 $ 63 $ rest 0 checksum 810215
 9999 $ 64 $ G6 at 2
 ={ val a = b$$$;val a = b$ }
-2999 $ 0 $ rest 0 sum 638474
+2999 $ 0 $ rest 0 checksum 638474
 ={ $while (a) { $$$
 10000 $ 0 $ G6 at 758
 ={ $($$$
@@ -261,24 +261,24 @@ pub const LONG: &[u8] = br#"
 ={ if (a) { }$$$ else if (a) { }$ }
 9999 $ 0 $ G6 at 1010
 ={ a match { case b =>$$$ case b =>$ } }
-2999 $ 62 $ rest 0 sum 704748
+2999 $ 62 $ rest 0 checksum 704748
 2999 $ 63 $ G6 at 2
 ={ Contract(a$$$, a$) }
-9999 $ 63 $ rest 0 sum 227403
+9999 $ 63 $ rest 0 checksum 227403
 ={ Contract($($a$)$) }
-10 $ 0 $ rest 0 sum 744127
-64 $ 0 $ rest 0 sum 626893
-10000 $ 0 $ rest 0 sum 972263
-64 $ 63 $ rest 0 sum 626893
+10 $ 0 $ rest 0 checksum 744127
+64 $ 0 $ rest 0 checksum 626893
+10000 $ 0 $ rest 0 checksum 972263
+64 $ 63 $ rest 0 checksum 626893
 64 $ 64 $ G6 at 2
 ={ Contract($($$$
 64 $ 0 $ G1 at 75
 10000 $ 0 $ G1 at 10011
 100000 $ 0 $ G1 at 100011
 ={ Contract($[{($a$)}]$) }
-64 $ 0 $ rest 0 sum 699210
-3000 $ 0 $ rest 0 sum 220112
-64 $ 63 $ rest 0 sum 699210
+64 $ 0 $ rest 0 checksum 699210
+3000 $ 0 $ rest 0 checksum 220112
+64 $ 63 $ rest 0 checksum 699210
 ={ Contract($[{($a$)]}$) }
 64 $ 0 $ G1 at 205
 ={${$$$

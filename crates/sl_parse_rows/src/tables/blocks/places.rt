@@ -1,5 +1,6 @@
 // Blocks that begin behind the first token.
 
+/// Texts of which a block is read from a token on.
 pub const FROM: &[u8] = br#"
 while (a) { b; c } $ 0 $ 0 $ G1 at 0
 while (a) { b; c } $ 0 $ 62 $ G1 at 0

@@ -1,5 +1,6 @@
 // Blocks with each token replaced.
 
+/// An empty block, declarations, assignments, `if`s and loops.
 pub const REPLACED: &[u8] = br#"
 $ 0 $ { }
 { $ `G1 at 1` NONE `G1 at 2` ; `rest 0` { $ 440616

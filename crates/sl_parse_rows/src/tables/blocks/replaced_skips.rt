@@ -1,5 +1,6 @@
 // Blocks with each token replaced.
 
+/// `return`s, statements that are skipped and what begins as they do, and matches.
 pub const REPLACED: &[u8] = br#"
 $ 0 $ { return ; return a + 1 }
 { $ `G1 at 1` NONE `G1 at 2` ; `rest 0` { $ 778312

@@ -1,5 +1,6 @@
 // Blocks with each token replaced, with the room that they need, and with one level less.
 
+/// Forms of statements, each with both rooms.
 pub const REPLACED: &[u8] = br#"
 $ 61 $ { val a : b [ c ] = d }
 { $ `G1 at 1` NONE `G1 at 2` ; `rest 0` { $ 629383

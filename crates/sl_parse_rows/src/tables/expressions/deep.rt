@@ -1,5 +1,6 @@
 // Expressions with the room that they need, and with one level less.
 
+/// Expressions with little room.
 pub const TIGHT: &[u8] = br#"
 1 $ 63 $ literal(Number 1)@0-1 rest 0
 1 $ 64 $ G6 at 0

@@ -1,5 +1,6 @@
 // What stands behind an expression and is no part of it.
 
+/// Expressions, with tokens behind them.
 pub const FOLLOWED: &[u8] = br#"
 a + b $ 0 $ infix(a@0-1 + b@4-5)@0-5 rest 0
 a;b $ 0 $ a@0-1 rest 2

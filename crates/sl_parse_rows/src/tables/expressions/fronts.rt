@@ -1,5 +1,6 @@
 // Expressions that break off or end, with little room.
 
+/// Each text at the depths from 61 to 64.
 pub const FRONTS: &[u8] = br#"
  $ 61 $ G1 at 0
  $ 62 $ G1 at 0

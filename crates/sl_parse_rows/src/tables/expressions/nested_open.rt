@@ -306,20 +306,20 @@ pub const LONG: &[u8] = br#"
 100000 $ 0 $ G6 at 63
 100000 $ 64 $ G6 at 0
 =a(b$$$, b$)
-9999 $ 0 $ rest 0 sum 386991
+9999 $ 0 $ rest 0 checksum 386991
 9999 $ 63 $ G6 at 1
 =a(b$$$, b$
 9999 $ 62 $ G1 at 30000
 =a(b = 1$$$, b = 1$)
-9999 $ 62 $ rest 0 sum 200666
+9999 $ 62 $ rest 0 checksum 200666
 =a(b = 1$$$, b = 1$, b)
 2999 $ 0 $ G1 at 21003
 =a[b$$$, b$]
-9999 $ 62 $ rest 0 sum 29440
+9999 $ 62 $ rest 0 checksum 29440
 =a match { case b => c$$$ case b => c$}
-2999 $ 61 $ rest 0 sum 831820
+2999 $ 61 $ rest 0 checksum 831820
 =a match { case b => c$$$;c$}
-9999 $ 61 $ rest 0 sum 240956
+9999 $ 61 $ rest 0 checksum 240956
 9999 $ 62 $ G6 at 20
 =a match { case b => c$$$;c$ d }
 2999 $ 0 $ G1 at 6020

@@ -1,5 +1,6 @@
 // Expressions that begin behind the first token.
 
+/// Texts of which an expression is read from a token on.
 pub const FROM: &[u8] = br#"
 val x = a + b; c $ 0 $ 0 $ G1 at 0
 val x = a + b; c $ 0 $ 63 $ G1 at 0

@@ -1,5 +1,6 @@
 // Infix operators of several levels, with prefixes, suffixes and other forms as operands.
 
+/// Operators of several levels.
 pub const MIXED: &[u8] = br#"
 a | b & c == d < e :+ f + g * h $ 0 $ infix(a@0-1 | infix(b@4-5 & infix(c@8-9 == infix(d@13-14 < infix(e@17-18 :+ infix(f@22-23 + infix(g@26-27 * h@30-31)@26-31)@22-31)@17-31)@13-31)@8-31)@4-31)@0-31 rest 0
 a * b + c :+ d < e == f & g | h $ 0 $ infix(infix(infix(infix(infix(infix(infix(a@0-1 * b@4-5)@0-5 + c@8-9)@0-9 :+ d@13-14)@0-14 < e@17-18)@0-18 == f@22-23)@0-23 & g@26-27)@0-27 | h@30-31)@0-31 rest 0

@@ -1,5 +1,6 @@
 // Expressions with each token replaced.
 
+/// Matches with patterns and guards, and arguments that are matches or `if`s.
 pub const REPLACED: &[u8] = br#"
 $ 0 $ a match { case b => c case d => }
 a $ `G1 at 1` NONE `G1 at 2` ; ( `G1 at 3` if `rest 0` this a T until to Contract 1 "" 'c' s"" l"" `G1 at 2` ! ~ - $ 683603

@@ -1,5 +1,6 @@
 // Expressions with each token replaced.
 
+/// Operators, prefixes, suffixes, parentheses and `if`s.
 pub const REPLACED: &[u8] = br#"
 $ 0 $ - 1 . a
 - $ `rest 0` NONE ; `G1 at 7` ( `G1 at 3` if `rest 3` this a T until to Contract 1 "" 'c' s"" l"" `rest 0` ! ~ - $ 241539

@@ -73,15 +73,15 @@ x match { case a(b: c[d], e.f(_, T)) => } $ 60 $ G6 at 21
 /// Patterns one in another, and types in them.
 pub const NESTED: &[u8] = br#"
 =x match { case $a($b$)$ => }
-61 $ 0 $ rest 0 sum 974081
-62 $ 0 $ rest 0 sum 920855
+61 $ 0 $ rest 0 checksum 974081
+62 $ 0 $ rest 0 checksum 920855
 63 $ 0 $ G6 at 141
 64 $ 0 $ G6 at 141
-61 $ 1 $ rest 0 sum 974081
+61 $ 1 $ rest 0 checksum 974081
 62 $ 1 $ G6 at 139
-52 $ 10 $ rest 0 sum 539973
+52 $ 10 $ rest 0 checksum 539973
 53 $ 10 $ G6 at 121
-0 $ 62 $ rest 0 sum 363089
+0 $ 62 $ rest 0 checksum 363089
 1 $ 62 $ G6 at 17
 0 $ 63 $ G6 at 2
 1 $ 63 $ G6 at 2
@@ -90,13 +90,13 @@ pub const NESTED: &[u8] = br#"
 0 $ 70 $ G6 at 0
 1 $ 70 $ G6 at 0
 =x match { case $a.b(c, $_$, d)$ => }
-61 $ 0 $ rest 0 sum 952533
-62 $ 0 $ rest 0 sum 483221
+61 $ 0 $ rest 0 checksum 952533
+62 $ 0 $ rest 0 checksum 483221
 63 $ 0 $ G6 at 453
 64 $ 0 $ G6 at 453
-61 $ 1 $ rest 0 sum 952533
+61 $ 1 $ rest 0 checksum 952533
 62 $ 1 $ G6 at 446
-0 $ 62 $ rest 0 sum 805478
+0 $ 62 $ rest 0 checksum 805478
 1 $ 62 $ G6 at 19
 0 $ 63 $ G6 at 2
 1 $ 63 $ G6 at 2
@@ -105,13 +105,13 @@ pub const NESTED: &[u8] = br#"
 0 $ 70 $ G6 at 0
 1 $ 70 $ G6 at 0
 =x match { case $a($$)$ => }
-62 $ 0 $ rest 0 sum 564704
-63 $ 0 $ rest 0 sum 369968
+62 $ 0 $ rest 0 checksum 564704
+63 $ 0 $ rest 0 checksum 369968
 64 $ 0 $ G6 at 141
 65 $ 0 $ G6 at 141
-62 $ 1 $ rest 0 sum 564704
+62 $ 1 $ rest 0 checksum 564704
 63 $ 1 $ G6 at 139
-1 $ 62 $ rest 0 sum 691284
+1 $ 62 $ rest 0 checksum 691284
 2 $ 62 $ G6 at 17
 0 $ 63 $ G6 at 2
 1 $ 63 $ G6 at 2
@@ -120,11 +120,11 @@ pub const NESTED: &[u8] = br#"
 0 $ 70 $ G6 at 0
 1 $ 70 $ G6 at 0
 =x match { case $a($b: c$)$ => }
-60 $ 0 $ rest 0 sum 914599
-61 $ 0 $ rest 0 sum 368808
+60 $ 0 $ rest 0 checksum 914599
+61 $ 0 $ rest 0 checksum 368808
 62 $ 0 $ G6 at 140
 63 $ 0 $ G6 at 141
-60 $ 1 $ rest 0 sum 914599
+60 $ 1 $ rest 0 checksum 914599
 61 $ 1 $ G6 at 138
 0 $ 62 $ G6 at 16
 1 $ 62 $ G6 at 17
@@ -135,11 +135,11 @@ pub const NESTED: &[u8] = br#"
 0 $ 70 $ G6 at 0
 1 $ 70 $ G6 at 0
 =x match { case $a($_: c$)$ => }
-60 $ 0 $ rest 0 sum 826546
-61 $ 0 $ rest 0 sum 825297
+60 $ 0 $ rest 0 checksum 826546
+61 $ 0 $ rest 0 checksum 825297
 62 $ 0 $ G6 at 140
 63 $ 0 $ G6 at 141
-60 $ 1 $ rest 0 sum 826546
+60 $ 1 $ rest 0 checksum 826546
 61 $ 1 $ G6 at 138
 0 $ 62 $ G6 at 16
 1 $ 62 $ G6 at 17
@@ -150,13 +150,13 @@ pub const NESTED: &[u8] = br#"
 0 $ 70 $ G6 at 0
 1 $ 70 $ G6 at 0
 =x match { case $a($-1$)$ => }
-61 $ 0 $ rest 0 sum 46721
-62 $ 0 $ rest 0 sum 427567
+61 $ 0 $ rest 0 checksum 46721
+62 $ 0 $ rest 0 checksum 427567
 63 $ 0 $ G6 at 141
 64 $ 0 $ G6 at 141
-61 $ 1 $ rest 0 sum 46721
+61 $ 1 $ rest 0 checksum 46721
 62 $ 1 $ G6 at 139
-0 $ 62 $ rest 0 sum 288172
+0 $ 62 $ rest 0 checksum 288172
 1 $ 62 $ G6 at 17
 0 $ 63 $ G6 at 2
 1 $ 63 $ G6 at 2
@@ -165,13 +165,13 @@ pub const NESTED: &[u8] = br#"
 0 $ 70 $ G6 at 0
 1 $ 70 $ G6 at 0
 =x match { case $a($a.b$)$ => }
-61 $ 0 $ rest 0 sum 444569
-62 $ 0 $ rest 0 sum 327575
+61 $ 0 $ rest 0 checksum 444569
+62 $ 0 $ rest 0 checksum 327575
 63 $ 0 $ G6 at 141
 64 $ 0 $ G6 at 141
-61 $ 1 $ rest 0 sum 444569
+61 $ 1 $ rest 0 checksum 444569
 62 $ 1 $ G6 at 139
-0 $ 62 $ rest 0 sum 811963
+0 $ 62 $ rest 0 checksum 811963
 1 $ 62 $ G6 at 17
 0 $ 63 $ G6 at 2
 1 $ 63 $ G6 at 2
@@ -180,11 +180,11 @@ pub const NESTED: &[u8] = br#"
 0 $ 70 $ G6 at 0
 1 $ 70 $ G6 at 0
 =x match { case b: $a[$a$]$ => }
-60 $ 0 $ rest 0 sum 920470
-61 $ 0 $ rest 0 sum 446286
+60 $ 0 $ rest 0 checksum 920470
+61 $ 0 $ rest 0 checksum 446286
 62 $ 0 $ G6 at 141
 63 $ 0 $ G6 at 141
-60 $ 1 $ rest 0 sum 920470
+60 $ 1 $ rest 0 checksum 920470
 61 $ 1 $ G6 at 139
 0 $ 62 $ G6 at 16
 1 $ 62 $ G6 at 16
@@ -195,11 +195,11 @@ pub const NESTED: &[u8] = br#"
 0 $ 70 $ G6 at 0
 1 $ 70 $ G6 at 0
 =x match { case _: $a[$a$]$ => }
-60 $ 0 $ rest 0 sum 179131
-61 $ 0 $ rest 0 sum 63881
+60 $ 0 $ rest 0 checksum 179131
+61 $ 0 $ rest 0 checksum 63881
 62 $ 0 $ G6 at 141
 63 $ 0 $ G6 at 141
-60 $ 1 $ rest 0 sum 179131
+60 $ 1 $ rest 0 checksum 179131
 61 $ 1 $ G6 at 139
 0 $ 62 $ G6 at 16
 1 $ 62 $ G6 at 16
@@ -210,11 +210,11 @@ pub const NESTED: &[u8] = br#"
 0 $ 70 $ G6 at 0
 1 $ 70 $ G6 at 0
 =x match { case a(b: $a[$a$]$) => }
-59 $ 0 $ rest 0 sum 869892
-60 $ 0 $ rest 0 sum 848708
+59 $ 0 $ rest 0 checksum 869892
+60 $ 0 $ rest 0 checksum 848708
 61 $ 0 $ G6 at 141
 62 $ 0 $ G6 at 141
-59 $ 1 $ rest 0 sum 869892
+59 $ 1 $ rest 0 checksum 869892
 60 $ 1 $ G6 at 139
 0 $ 62 $ G6 at 17
 1 $ 62 $ G6 at 17
@@ -266,10 +266,10 @@ pub const NESTED: &[u8] = br#"
 /// Long ones.
 pub const LONG: &[u8] = br#"
 =x match { case a(b$$$,b$) => }
-9999 $ 61 $ rest 0 sum 545340
+9999 $ 61 $ rest 0 checksum 545340
 9999 $ 62 $ G6 at 17
 =x match { case a$$$.b$ => }
-9999 $ 62 $ rest 0 sum 47632
+9999 $ 62 $ rest 0 checksum 47632
 9999 $ 63 $ G6 at 2
 =x match { case $a($$$
 10000 $ 0 $ G6 at 141

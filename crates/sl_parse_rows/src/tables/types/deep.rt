@@ -195,25 +195,25 @@ s"a" $ 4294967295 $ G1 at 0
 /// Types one in another.
 pub const NESTED: &[u8] = br#"
 =$a[$a$]$
-0 $ 0 $ rest 0 sum 535733
-1 $ 0 $ rest 0 sum 455157
-62 $ 0 $ rest 0 sum 778466
-63 $ 0 $ rest 0 sum 27473
+0 $ 0 $ rest 0 checksum 535733
+1 $ 0 $ rest 0 checksum 455157
+62 $ 0 $ rest 0 checksum 778466
+63 $ 0 $ rest 0 checksum 27473
 64 $ 0 $ G6 at 127
 65 $ 0 $ G6 at 127
 999 $ 0 $ G6 at 127
-62 $ 1 $ rest 0 sum 778466
+62 $ 1 $ rest 0 checksum 778466
 63 $ 1 $ G6 at 125
-52 $ 10 $ rest 0 sum 775484
-53 $ 10 $ rest 0 sum 413868
+52 $ 10 $ rest 0 checksum 775484
+53 $ 10 $ rest 0 checksum 413868
 54 $ 10 $ G6 at 107
 62 $ 10 $ G6 at 107
 63 $ 10 $ G6 at 107
 64 $ 10 $ G6 at 107
-0 $ 62 $ rest 0 sum 535733
-1 $ 62 $ rest 0 sum 455157
+0 $ 62 $ rest 0 checksum 535733
+1 $ 62 $ rest 0 checksum 455157
 2 $ 62 $ G6 at 3
-0 $ 63 $ rest 0 sum 535733
+0 $ 63 $ rest 0 checksum 535733
 1 $ 63 $ G6 at 1
 62 $ 63 $ G6 at 1
 63 $ 63 $ G6 at 1
@@ -231,39 +231,39 @@ pub const NESTED: &[u8] = br#"
 63 $ 4294967295 $ G6 at 0
 64 $ 4294967295 $ G6 at 0
 =$a[$a$]$]
-63 $ 0 $ rest 1 sum 27473
+63 $ 0 $ rest 1 checksum 27473
 =$a[$a$]$[b]
-63 $ 0 $ rest 3 sum 27473
-53 $ 10 $ rest 3 sum 413868
+63 $ 0 $ rest 3 checksum 27473
+53 $ 10 $ rest 3 checksum 413868
 =$a[$a$]$.b
-63 $ 0 $ rest 2 sum 27473
+63 $ 0 $ rest 2 checksum 27473
 =$a[$a$]$;b
-63 $ 0 $ rest 2 sum 27473
+63 $ 0 $ rest 2 checksum 27473
 =$a[b,$a$]$
-62 $ 0 $ rest 0 sum 650525
-63 $ 0 $ rest 0 sum 881525
+62 $ 0 $ rest 0 checksum 650525
+63 $ 0 $ rest 0 checksum 881525
 64 $ 0 $ G6 at 253
 65 $ 0 $ G6 at 253
-62 $ 1 $ rest 0 sum 650525
+62 $ 1 $ rest 0 checksum 650525
 63 $ 1 $ G6 at 249
-1 $ 62 $ rest 0 sum 189989
+1 $ 62 $ rest 0 checksum 189989
 2 $ 62 $ G6 at 5
-0 $ 63 $ rest 0 sum 535733
+0 $ 63 $ rest 0 checksum 535733
 1 $ 63 $ G6 at 1
 0 $ 64 $ G6 at 0
 1 $ 64 $ G6 at 0
 0 $ 70 $ G6 at 0
 1 $ 70 $ G6 at 0
 =$a.b[$a$,b]$
-62 $ 0 $ rest 0 sum 605387
-63 $ 0 $ rest 0 sum 788849
+62 $ 0 $ rest 0 checksum 605387
+63 $ 0 $ rest 0 checksum 788849
 64 $ 0 $ G6 at 255
 65 $ 0 $ G6 at 255
-62 $ 1 $ rest 0 sum 605387
+62 $ 1 $ rest 0 checksum 605387
 63 $ 1 $ G6 at 251
-1 $ 62 $ rest 0 sum 820907
+1 $ 62 $ rest 0 checksum 820907
 2 $ 62 $ G6 at 7
-0 $ 63 $ rest 0 sum 535733
+0 $ 63 $ rest 0 checksum 535733
 1 $ 63 $ G6 at 3
 0 $ 64 $ G6 at 0
 1 $ 64 $ G6 at 0
@@ -326,10 +326,10 @@ pub const LONG: &[u8] = br#"
 =a[b$$$,b$]
 9999 $ 64 $ G6 at 0
 =a[b$$$,b$]
-9999 $ 62 $ rest 0 sum 939458
+9999 $ 62 $ rest 0 checksum 939458
 =a$$$.b$
-9999 $ 0 $ rest 0 sum 951233
-9999 $ 63 $ rest 0 sum 951233
+9999 $ 0 $ rest 0 checksum 951233
+9999 $ 63 $ rest 0 checksum 951233
 9999 $ 64 $ G6 at 0
 =$a[$$$
 10000 $ 0 $ G6 at 127

@@ -1,5 +1,6 @@
 // Types with each token replaced.
 
+/// Names and types with arguments.
 pub const REPLACED: &[u8] = br#"
 $ 0 $ a
 a $ `G1 at 1` ; `rest 0` a T until to Contract $ 465566
