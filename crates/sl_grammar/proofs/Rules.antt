@@ -185,7 +185,7 @@ module _ {K N : Type 0} (kind : K → ℕ) (sample : ℕ → K) (names : Names N
             let (x, a, w) = form_word kind sample T room spells names.sets names.valid (lower kind sample names i) less (names.rule i) (lead kind sample names i) t.passed t.worded in
             (tree i x, a, (seen i v o).to x a w)
 
-    word : (i : N) → names.valid i ≡ true → Word (spells i)
+    pub word : (i : N) → names.valid i ≡ true → Word (spells i)
     word i v = words (suc (names.height i)) i v (omega arith)
 
     -- how each name begins
@@ -200,7 +200,7 @@ module _ {K N : Type 0} (kind : K → ℕ) (sample : ℕ → K) (names : Names N
             subst (Shape (spells i) (is kind (names.sets i).first)) t.blank
             (same_shape (λ k. t.first (kind k)) (seen_shape (seen i v o) (form_shape kind sample T room spells names.sets names.valid word (lead kind sample names i) less (names.rule i) t.passed)))
 
-    shape : (i : N) → names.valid i ≡ true → Shaped i
+    pub shape : (i : N) → names.valid i ≡ true → Shaped i
     shape i v = shapes (suc (names.rank i)) i v (omega arith)
 
     -- each name is read

@@ -7,7 +7,6 @@ use Rattle.std.specs.declared.result.Result.TheVariants.{Ok, Err}
 use Rattle.std.proofs.lemmas.List.{append-nil, append_cancel_right, drop_min, drop-take, length-drop, length-map, length-take, take-map}
 use Rattle.std.proofs.Math.Seq.{take-append-add}
 use Rattle.sl_text.specs.declared.token.Token.{Token}
-use Rattle.sl_text.specs.declared.fault.Fault.TheVariants as fault
 use Rattle.sl_grammar.specs.Phrase.{Begins, Found, Done, Stopped, IsFront, IsRead, left_of}
 use Rattle.sl_grammar.specs.Law.{found_as}
 use Rattle.sl_grammar.specs.Grammar.{has}
@@ -15,9 +14,9 @@ use Rattle.sl_grammar.proofs.Then.{front_of}
 use Rattle.sl_grammar.proofs.Front.{begins_read, begins_left}
 use Rattle.sl_tree.specs.Sorts.{Spelled, spelled, sort}
 use Rattle.sl_parse_expr.specs.Told.{behind, head_sort}
-use Rattle.sl_parse_expr.specs.Answers.{Phrase, AnyDepth, Within, Reaches, GoesTooDeep, IsTooDeep, IsWrong, AreBetween, Answers, room_of, rule, place}
+use Rattle.sl_parse_expr.specs.Answers.{Phrase, AnyDepth, Within, Reaches, GoesTooDeep, IsTooDeep, IsWrong, AreBetween, Answers, room_of, place}
 use Rattle.sl_parse_expr.specs.declared.answer.Went.{Went}
-use Rattle.sl_parse_expr.specs.Went.{is_done, TellsWent, number_of}
+use Rattle.sl_parse_expr.specs.Went.{is_done, TellsWent, refusal}
 use Rattle.sl_parse_expr.proofs.Behind.{behind_end}
 use Rattle.sl_parse_expr.proofs.Fronts.{left_is}
 
@@ -173,10 +172,10 @@ module _ {X V : Type 0} (P : Phrase X) (view : V → X) where
     Told last f went = TellsWent bytes (take (suc last) tokens) f (Ok went)
 
     abbrev pub Refused : ℕ → Went → Type 0
-    Refused last went = Answers P file bytes tokens at depth (Err (fault.Broken (record { rule = rule (number_of last went); span = place file bytes (drop last tokens) })))
+    Refused last went = Answers P file bytes tokens at depth (Err (refusal (place file bytes (drop last tokens)) (nat_lt last went.next) went.whole))
 
-    abbrev Judged : ℕ → List Spelled → Went → Type 0
-    Judged last used went = ((rule (number_of last went) ≡ rule 6) × IsTooDeep (room_of depth) P used (behind bytes tokens last)) ⊎ ((rule (number_of last went) ≡ rule 1) × IsWrong (room_of depth) P used (behind bytes tokens last))
+    abbrev Judged : ℕ → Bool → Bool → Type 0
+    Judged last on whole = Answers P file bytes tokens at depth (Err (refusal (place file bytes (drop last tokens)) on whole))
 
     read_given : (last : ℕ) (used : List Spelled) → AreBetween bytes tokens at last used → (f : Found Spelled V) → ReadsAny (Given last) f → ReadsAny (used ++ take 1 (behind bytes tokens last)) f
     read_given last used b f r = subst (λ ts. ReadsAny ts f) (given bytes tokens at last used b) r
@@ -198,29 +197,24 @@ module _ {X V : Type 0} (P : Phrase X) (view : V → X) where
     pub refused : (last : ℕ) → last ≤ length tokens → (used : List Spelled) → AreBetween bytes tokens at last used → Halted P (room_of depth) used (behind bytes tokens last)
         → (f : Found Spelled V) → ReadsAny (Given last) f → (went : Went) → Told last f went → Refused last went
     refused last le used b h f r went t =
-        (last, used, b, refl, by (again used (behind bytes tokens last) begins f (read_given last used b f r)) went.whole refl (nat_lt last went.next) refl)
+        by (again used (behind bytes tokens last) begins f (read_given last used b f r)) (nat_lt last went.next) refl went.whole refl
       where
         begins : Begins (AnyDepth P) used
         begins = any_begins (room_of depth) used h.reaches (Given last) f r
 
         deeper : WentOn used (behind bytes tokens last) f → IsTooDeep (room_of depth) P used (behind bytes tokens last)
-        deeper (k, more, e, g, c) = (h.reaches, inl (k, more, e, c, h.stays k more e))
-
-        ended : IsFront (AnyDepth P) used (behind bytes tokens last) → (f : Found Spelled V) → Whole used f → is_done f ≡ true → IsTooDeep (room_of depth) P used (behind bytes tokens last)
-        ended front (Done v left) w e = (h.reaches, inr (front, (view v, w), h.none))
-        ended front (Stopped left) w e = cc
+        deeper (k, more, e, g, c) = (h.reaches, (k, more, e, c, h.stays k more e))
 
         wrong : IsFront (AnyDepth P) used (behind bytes tokens last) → (f : Found Spelled V) → Whole used f → is_done f ≡ false → IsWrong (room_of depth) P used (behind bytes tokens last)
         wrong front (Done v left) w e = cc
         wrong front (Stopped left) w e = (h.reaches, front, w)
 
-        by : WentOn used (behind bytes tokens last) f ⊎ Stayed used (behind bytes tokens last) f → (d : Bool) → went.whole ≡ d → (c : Bool) → nat_lt last went.next ≡ c → Judged last used went
-        by (inl o) true e c i = inl (rw e, deeper o)
-        by (inl o) false e true i = inl (rw (e, i), deeper o)
-        by (inl o) false e false i = absurd (true≢false (sym (lt-ltb last went.next (past last used f went t o)) ∙ i))
-        by (inr s) true e c i = inl (rw e, ended s.front f s.whole (t.2 ∙ e))
-        by (inr s) false e true i = absurd (not_past last used f went le t s (ltb-true last went.next i))
-        by (inr s) false e false i = inr (rw (e, i), wrong s.front f s.whole (t.2 ∙ e))
+        by : WentOn used (behind bytes tokens last) f ⊎ Stayed used (behind bytes tokens last) f → (c : Bool) → nat_lt last went.next ≡ c → (d : Bool) → went.whole ≡ d → Judged last c d
+        by (inl o) true i d e = (last, used, b, refl, inl (refl, deeper o))
+        by (inl o) false i d e = absurd (true≢false (sym (lt-ltb last went.next (past last used f went t o)) ∙ i))
+        by (inr s) true i d e = absurd (not_past last used f went le t s (ltb-true last went.next i))
+        by (inr s) false i true e = tt
+        by (inr s) false i false e = (last, used, b, refl, inr (refl, wrong s.front f s.whole (t.2 ∙ e)))
 
     -- the first reader found a tree
     found : (g : Found Spelled V) → ReadsWithin (room_of depth) (behind bytes tokens at) g → (v : V) (next : ℕ) → g ≡ Done v (behind bytes tokens next) → at ≤ length tokens → next ≤ length tokens
@@ -264,11 +258,12 @@ module _ {X V : Type 0} (P : Phrase X) (view : V → X) where
         → (f : Found Spelled V) → ReadsAny (Given next) f → (went : Went) → Told next f went → next < went.next → Refused next went
     too_deep g r v next e a b f q went t h =
         let (used, c, d) = found g r v next e a b in
-        (next, used, c, refl, inl (number went.whole refl, (inr d.front.begins, inl (deeper used d (again used (behind bytes tokens next) (any_begins (room_of depth) used (inr d.front.begins) (Given next) f q) f (read_given next used c f q))))))
+        by used c d (deeper used d (again used (behind bytes tokens next) (any_begins (room_of depth) used (inr d.front.begins) (Given next) f q) f (read_given next used c f q))) (nat_lt next went.next) (lt-ltb next went.next h)
       where
-        number : (c : Bool) → went.whole ≡ c → rule (number_of next went) ≡ rule 6
-        number true e = rw e
-        number false e = rw (e, lt-ltb next went.next h)
+        by : (used : List Spelled) → AreBetween bytes tokens at next used → Finished P (room_of depth) (view v) used (behind bytes tokens next) → GoesTooDeep (room_of depth) P used (behind bytes tokens next)
+            → (c : Bool) → c ≡ true → Judged next c went.whole
+        by used c d w true i = (next, used, c, refl, inl (refl, (inr d.front.begins, w)))
+        by used c d w false i = cc
 
         deeper : (used : List Spelled) → Finished P (room_of depth) (view v) used (behind bytes tokens next) → WentOn used (behind bytes tokens next) f ⊎ Stayed used (behind bytes tokens next) f → GoesTooDeep (room_of depth) P used (behind bytes tokens next)
         deeper used d (inl (k, more, i, l, w)) = (k, more, i, w, d.front.ends k more i)

@@ -1,11 +1,11 @@
 -- What is read is the longest front of each name, a list of tokens has one tree at most, and the readers do what the rules say.
 use Rattle.std.proofs.Common.{◌≡◌, ℕ, suc, List, [], ◌∷◌, ◌++◌, length, refl, true, false, arith}
 use Rattle.sl_grammar.specs.Phrase.{Begins, Found, IsRead}
-use Rattle.sl_grammar.specs.Law.{Law, found_as}
+use Rattle.sl_grammar.specs.Law.{Law, Shape, found_as}
 use Rattle.sl_grammar.specs.Grammar.{is, read_form}
 use Rattle.sl_grammar.specs.Rules.{good}
 use Rattle.sl_grammar.specs.Brackets.{read_group}
-use Rattle.sl_grammar.proofs.Rules.{all_laws, rule_is, reads_same}
+use Rattle.sl_grammar.proofs.Rules.{all_laws, rule_is, reads_same, shape}
 use Rattle.sl_tree.specs.Sorts.{Spelled, sort, example}
 use Rattle.sl_tree.specs.WellShaped.{same_bracket, bracket_of, Round}
 use Rattle.sl_parse_expr.specs.Names.{Name, Group, At, at, Levels, rule_at}
@@ -25,9 +25,13 @@ abbrev pub reader : (i : At) → List Spelled → Found Spelled (T_of i)
 reader i ts = read i.room i.name ts
 
 module _ (t : TreesSeen) where
-  law : (size : ℕ) (n : Name) (r : Levels) → valid_at n r ≡ true → Law (spells_at n r) (read r n) (is sort (sets_at n r).after) size
+  -- what is owed of each name beside its rule: a law of its reader, and how it begins
+  pub law : (size : ℕ) (n : Name) (r : Levels) → valid_at n r ≡ true → Law (spells_at n r) (read r n) (is sort (sets_at n r).after) size
   unfolding read
   law size n r v = all_laws sort example grammar T_of room tree spells by_hand (seen t) check own size (at n r) v
+
+  pub shape_of : (n : Name) (r : Levels) → valid_at n r ≡ true → Shape (spells_at n r) (is sort (sets_at n r).first) (sets_at n r).blank
+  shape_of n r v = shape sort example grammar T_of room tree spells by_hand (seen t) check own (at n r) v
 
   -- what is found is the longest front with which a tree begins, and a tree exactly where that front is one
   pub reads : (n : Name) (r : Levels) → valid_at n r ≡ true → (ts : List Spelled) → IsRead (spells_at n r) ts (read r n ts)

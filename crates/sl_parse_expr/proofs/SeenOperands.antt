@@ -13,7 +13,7 @@ use Rattle.sl_tree.specs.declared.tree.Expr.{Expr, out-Expr}
 use Rattle.sl_tree.specs.declared.tree.ExprKind.{ExprKind, out-ExprKind, ExprKind-F}
 use Rattle.sl_tree.specs.declared.tree.ExprKind.TheVariants as expr_kind
 use Rattle.sl_tree.specs.declared.tree.Else.TheOpen as opened
-use Rattle.sl_tree.specs.Sorts.{Spelled, sort, sort_of, sort_of_name, sort_of_word, sort_of_prefixed, sort_of_separator, sort_of_operator, sort_of_mark, lexeme, left_parenthesis, right_parenthesis, left_bracket, right_bracket, left_brace, right_brace, comma, dot, underscore, colon, equals, double_arrow, left_arrow, other, if_word, else_word, match_word, case_word, val_word, var_word, while_word, for_word, return_word, this_word, plain_name, truth_name, until_name, to_name, contract_name, prefixed, prefixed_l, separator, or_operator, and_operator, equal_operator, less_operator, append_operator, plus_operator, times_operator, number, minus, exclamation, tilde}
+use Rattle.sl_tree.specs.Sorts.{Spelled, sort, sort_of, sort_of_name, sort_of_word, sort_of_prefixed, sort_of_separator, sort_of_operator, sort_of_mark, lexeme, left_parenthesis, right_parenthesis, left_bracket, right_bracket, left_brace, right_brace, comma, dot, underscore, colon, equals, double_arrow, left_arrow, at_sign, other, if_word, else_word, match_word, case_word, val_word, var_word, while_word, for_word, return_word, this_word, package_word, import_word, class_word, object_word, trait_word, extends_word, with_word, def_word, override_word, plain_name, truth_name, until_name, to_name, contract_name, prefixed, prefixed_l, separator, or_operator, and_operator, equal_operator, less_operator, append_operator, plus_operator, times_operator, number, minus, exclamation, tilde}
 use Rattle.sl_tree.specs.WellShaped.{join, cover, expr, Is, names, literals, number_kind, numbered_kind, is_number, IsExpr, literal, name, this, paren, select, given, apply, update, negative, prefix, infix_of, if_of, match_of, if_all, match_all}
 use Rattle.sl_tree.proofs.Spans.{last_both, Solid, cover_one, solid_one}
 use Rattle.sl_tree.proofs.Trees.{Deep, expr_solid, expr_spanned, expr_deep, expr_span_is, expr_kind_is}
@@ -50,7 +50,8 @@ no_mark text =
     (either (bytes_eq text (codes ":")) (none colon refl)
     (either (bytes_eq text (codes "=")) (none equals refl)
     (either (bytes_eq text (codes "=>")) (none double_arrow refl)
-    (either (bytes_eq text (codes "<-")) (none left_arrow refl) (none other refl)))))))))))))
+    (either (bytes_eq text (codes "<-")) (none left_arrow refl)
+    (either (bytes_eq text (codes "@")) (none at_sign refl) (none other refl))))))))))))))
 
 no_word : (text : List ℕ) → NoNumber (sort_of_word text)
 unfolding sort_of_word
@@ -64,7 +65,16 @@ no_word text =
     (either (bytes_eq text (codes "while")) (none while_word refl)
     (either (bytes_eq text (codes "for")) (none for_word refl)
     (either (bytes_eq text (codes "return")) (none return_word refl)
-    (either (bytes_eq text (codes "this")) (none this_word refl) (none other refl))))))))))
+    (either (bytes_eq text (codes "this")) (none this_word refl)
+    (either (bytes_eq text (codes "package")) (none package_word refl)
+    (either (bytes_eq text (codes "import")) (none import_word refl)
+    (either (bytes_eq text (codes "class")) (none class_word refl)
+    (either (bytes_eq text (codes "object")) (none object_word refl)
+    (either (bytes_eq text (codes "trait")) (none trait_word refl)
+    (either (bytes_eq text (codes "extends")) (none extends_word refl)
+    (either (bytes_eq text (codes "with")) (none with_word refl)
+    (either (bytes_eq text (codes "def")) (none def_word refl)
+    (either (bytes_eq text (codes "override")) (none override_word refl) (none other refl)))))))))))))))))))
 
 no_name : (text : List ℕ) → NoNumber (sort_of_name text)
 unfolding sort_of_name

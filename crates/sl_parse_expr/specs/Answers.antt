@@ -47,13 +47,9 @@ abbrev pub GoesTooDeep : {X : Type 0} → ℕ → Phrase X → (used rest : List
 GoesTooDeep most P used rest =
     (k : Spelled) × (more : List Spelled) × (rest ≡ k ∷ more) × Begins (AnyDepth P) (used ++ k ∷ []) × ¬ Begins (Within most P) (used ++ k ∷ [])
 
--- no phrase goes on, and each that these tokens spell is too deep
-abbrev pub EndsTooDeep : {X : Type 0} → ℕ → Phrase X → (used rest : List Spelled) → Type 0
-EndsTooDeep {X} most P used rest = IsFront (AnyDepth P) used rest × ((x : X) × AnyDepth P x used) × ((x : X) → ¬ Within most P x used)
-
 -- rule G6 is broken behind `used`
 abbrev pub IsTooDeep : {X : Type 0} → ℕ → Phrase X → (used rest : List Spelled) → Type 0
-IsTooDeep most P used rest = Reaches most P used × (GoesTooDeep most P used rest ⊎ EndsTooDeep most P used rest)
+IsTooDeep most P used rest = Reaches most P used × GoesTooDeep most P used rest
 
 -- rule G1 is broken behind `used`: no phrase goes on, and none is spelled by these tokens, however deep
 abbrev pub IsWrong : {X : Type 0} → ℕ → Phrase X → (used rest : List Spelled) → Type 0

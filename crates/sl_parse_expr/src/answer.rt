@@ -1,8 +1,8 @@
 // What a refusal means.
-ghost use Rattle.std.specs.Prelude.{◌≡◌, ◌≤◌, suc, Some, length, take, drop};
+ghost use Rattle.std.specs.Prelude.{◌≡◌, ◌≤◌, suc, Some, length, take, drop, nat_lt};
 ghost use Rattle.sl_text.specs.declared.fault.Fault.TheVariants as fault;
 ghost use Rattle.sl_parse_expr.specs.Answers.{place as place_of, rule as rule_of, room_of};
-ghost use Rattle.sl_parse_expr.specs.Went.{number_of};
+ghost use Rattle.sl_parse_expr.specs.Went.{refusal};
 
 use crate::room::Room;
 use sl_text::{Broken, Fault, Phase, Rule, Span, Token};
@@ -36,31 +36,34 @@ pub struct Went {
     pub next: usize,
 }
 
-/// The rule that is broken where a reader within the room stopped at an index, and one without a limit went on.
+/// What is answered where a reader within the room stopped at an index, and one without a limit went so far: rule G6 where that went
+/// on, and G1 where what it found isn't whole. It never stays at the index with something whole, though no clause says so: then want of
+/// memory would be answered.
 pub fn refused(file: u32, bytes: &[u8], tokens: &[Token], last: usize, went: Went) -> Fault
     requires small { length bytes.now ≤ 4194304 }
-    ensures { result ≡ fault.Broken (record { rule = rule_of (number_of last went); span = place_of file bytes.now (drop last tokens.now) }) }
+    ensures { result ≡ refusal (place_of file bytes.now (drop last tokens.now)) (nat_lt last went.next) went.whole }
+{
+    let span = place(file, bytes, tokens, last);
+    if went.next > last {
+        return broken(6, span);
+    }
+    if went.whole {
+        return Fault::Mem;
+    }
+    broken(1, span)
+}
+
+/// A broken rule G of a number.
+fn broken(number: u8, span: Span) -> Fault
+    ensures { result ≡ fault.Broken (record { rule = rule_of number; span = span }) }
 {
     Fault::Broken(Broken {
         rule: Rule {
             phase: Phase::G,
-            number: number_of(last, went),
+            number,
         },
-        span: place(file, bytes, tokens, last),
+        span,
     })
-}
-
-/// Its number.
-fn number_of(last: usize, went: Went) -> u8
-    ensures { result ≡ number_of last went }
-{
-    if went.whole {
-        6
-    } else if went.next > last {
-        6
-    } else {
-        1
-    }
 }
 
 /// The span of a token, or that of the end of the bytes.

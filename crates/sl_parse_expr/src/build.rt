@@ -8,8 +8,8 @@ ghost use Rattle.sl_parse_expr.specs.Values.{span_of, token_expr, name_text, min
 ghost use Rattle.sl_parse_expr.specs.Told.{spanned};
 ghost use Rattle.sl_parse_expr.specs.Applied.{applied};
 
-use crate::tokens::{THIS, TO_NAME, VAR, is_name, join, lexeme, sort, text};
 use sl_text::{Boxed, Kind, Mem, Row, Span, Text, Token};
+use sl_tree::sorts::{THIS, TO_NAME, VAR, is_name, join, lexeme, sort, text};
 use sl_tree::{Case, Expr, ExprKind, Field, Lexeme, Stmt, StmtKind, TypeTerm};
 use std::alloc::Global;
 

@@ -19,12 +19,15 @@ use crate::patterns::pattern;
 use crate::room::{Room, deeper, fits, holds};
 use crate::statements::statements;
 use crate::tokens::{
-    CASE, COMMA, DOT, DOUBLE_ARROW, ELSE, EQUALS, IF, LEFT_BRACE, LEFT_BRACKET, LEFT_PARENTHESIS,
-    MATCH, MINUS, NUMBER, RIGHT_BRACE, RIGHT_PARENTHESIS, Stop, comes, expect, expect_name,
-    expect_token_expr, is_operator, is_sign, is_suffix, join, lexeme, peek, token_at,
+    Stop, comes, expect, expect_name, expect_token_expr, is_operator, is_sign, is_suffix, peek,
+    token_at,
 };
 use crate::types::types;
 use sl_text::{Row, Span, Token};
+use sl_tree::sorts::{
+    CASE, COMMA, DOT, DOUBLE_ARROW, ELSE, EQUALS, IF, LEFT_BRACE, LEFT_BRACKET, LEFT_PARENTHESIS,
+    MATCH, MINUS, NUMBER, RIGHT_BRACE, RIGHT_PARENTHESIS, join, lexeme,
+};
 use sl_tree::{Case, Expr, ExprKind, Field};
 use std::alloc::Global;
 

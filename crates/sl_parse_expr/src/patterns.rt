@@ -11,12 +11,13 @@ ghost use Rattle.sl_parse_expr.specs.Grammar.{read};
 ghost use Rattle.sl_parse_expr.specs.Told.{behind, head_sort, Tells, TellsThree, Lies, reads, any_form, class_form, class_view};
 
 use crate::room::{Room, deeper, fits};
-use crate::tokens::{
-    COLON, COMMA, LEFT_PARENTHESIS, MINUS, NUMBER, RIGHT_PARENTHESIS, Stop, TRUTH_NAME, UNDERSCORE,
-    begins_pattern, expect, is_literal, is_name, join, lexeme, peek, sort, text,
-};
+use crate::tokens::{Stop, begins_pattern, expect, peek};
 use crate::types::{more_names, type_term};
 use sl_text::{Mem, Row, Span, Token};
+use sl_tree::sorts::{
+    COLON, COMMA, LEFT_PARENTHESIS, MINUS, NUMBER, RIGHT_PARENTHESIS, TRUTH_NAME, UNDERSCORE,
+    is_literal, is_name, join, lexeme, sort, text,
+};
 use sl_tree::{Pattern, PatternKind};
 use std::alloc::Global;
 

@@ -7,8 +7,11 @@ ghost use Rattle.sl_tree.specs.Sorts.{sort, prefixed_l};
 ghost use Rattle.sl_parse_expr.specs.Values.{skip_from};
 ghost use Rattle.sl_parse_expr.specs.Told.{behind, Tells, Lies, read_skip, skip_view};
 
-use crate::tokens::*;
+use crate::tokens::{Stop, expect, is_closing, is_opening};
 use sl_text::{Row, Token};
+use sl_tree::sorts::{
+    CONTRACT_NAME, LEFT_PARENTHESIS, PREFIXED_L, RIGHT_PARENTHESIS, join, lexeme, sort,
+};
 use sl_tree::{Lexeme, Stmt, StmtKind};
 use std::alloc::Global;
 

@@ -14,13 +14,15 @@ use crate::expressions::{expression, head, infix, matched};
 use crate::room::{Room, deeper, fits, holds, open_to};
 use crate::skips::{group, skip_text};
 use crate::tokens::{
-    COLON, CONTRACT_NAME, ELSE, EQUALS, FOR, IF, LEFT_ARROW, LEFT_BRACE, LEFT_PARENTHESIS, MATCH,
-    PREFIXED_L, RETURN, RIGHT_BRACE, RIGHT_PARENTHESIS, SEPARATOR, Stop, WHILE, begins_expression,
-    begins_statement, comes, expect, expect_declaring, expect_name, expect_range, is_declaring,
-    join, peek,
+    Stop, begins_expression, begins_statement, comes, expect, expect_declaring, expect_name,
+    expect_range, is_declaring, peek,
 };
 use crate::types::type_term;
 use sl_text::{Boxed, Row, Span, Token};
+use sl_tree::sorts::{
+    COLON, CONTRACT_NAME, ELSE, EQUALS, FOR, IF, LEFT_ARROW, LEFT_BRACE, LEFT_PARENTHESIS, MATCH,
+    PREFIXED_L, RETURN, RIGHT_BRACE, RIGHT_PARENTHESIS, SEPARATOR, WHILE, join,
+};
 use sl_tree::{Else, Expr, Stmt, StmtKind, TypeTerm};
 use std::alloc::Global;
 

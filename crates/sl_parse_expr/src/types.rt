@@ -6,11 +6,10 @@ ghost use Rattle.sl_parse_expr.specs.Grammar.{read};
 ghost use Rattle.sl_parse_expr.specs.Told.{behind, Tells, TellsThree, Lies, reads, path_form, path_view, path_from, types_view};
 
 use crate::room::{Room, deeper, fits};
-use crate::tokens::{
-    COMMA, DOT, LEFT_BRACKET, RIGHT_BRACKET, Stop, expect, expect_name, join, peek, text,
-};
+use crate::tokens::{Stop, expect, expect_name, peek};
 use sl_text::{Row, Span, Text, Token};
 use sl_tree::TypeTerm;
+use sl_tree::sorts::{COMMA, DOT, LEFT_BRACKET, RIGHT_BRACKET, join, text};
 use std::alloc::Global;
 
 /// A path, its span, and the index behind it.

@@ -21,31 +21,31 @@ use Rattle.sl_tree.proofs.FlatLayers.{flat_type_term, flat_any, flat_bind, flat_
 -- What tokens are -----------------------------------------------------------------------------------------------------------------------
 
 -- a tree's tokens are these
-record Tells (xs : Tokens) (ts : List Spelled) : Type 0 where
-  is : xs ≡ map lexeme ts
+pub record Tells (xs : Tokens) (ts : List Spelled) : Type 0 where
+  pub is : xs ≡ map lexeme ts
 
-none : Tells [] []
+pub none : Tells [] []
 none = record { is = refl }
 
-next : {x : Lexeme} {xs : Tokens} {ts : List Spelled} (k : Spelled) → lexeme k ≡ x → Tells xs ts → Tells (x ∷ xs) (k ∷ ts)
+pub next : {x : Lexeme} {xs : Tokens} {ts : List Spelled} (k : Spelled) → lexeme k ≡ x → Tells xs ts → Tells (x ∷ xs) (k ∷ ts)
 next {xs} k e told = record { is = ap (λ x. x ∷ xs) (sym e) ∙ ap (λ w. lexeme k ∷ w) told.is }
 
-join : {xs ys : Tokens} {us vs : List Spelled} → Tells xs us → Tells ys vs → Tells (xs ++ ys) (us ++ vs)
+pub join : {xs ys : Tokens} {us vs : List Spelled} → Tells xs us → Tells ys vs → Tells (xs ++ ys) (us ++ vs)
 join {ys} {us} {vs} first second = record { is = ap (λ w. w ++ ys) first.is ∙ (ap (λ w. map lexeme us ++ w) second.is ∙ sym (map-append lexeme us vs)) }
 
 -- where the tree and its tokens are told as others
-both : {xs ys : Tokens} {ts us : List Spelled} → ys ≡ xs → ts ≡ us → Tells xs us → Tells ys ts
+pub both : {xs ys : Tokens} {ts us : List Spelled} → ys ≡ xs → ts ≡ us → Tells xs us → Tells ys ts
 both e f told = record { is = e ∙ (told.is ∙ sym (ap (map lexeme) f)) }
 
 -- in parentheses, in brackets, in braces
 
-rounded : {xs : Tokens} {us : List Spelled} (p q : Spelled) → Is (left_parenthesis ∷ []) p → Is (right_parenthesis ∷ []) q → Tells xs us → Tells (round xs) (p ∷ (us ++ q ∷ []))
+pub rounded : {xs : Tokens} {us : List Spelled} (p q : Spelled) → Is (left_parenthesis ∷ []) p → Is (right_parenthesis ∷ []) q → Tells xs us → Tells (round xs) (p ∷ (us ++ q ∷ []))
 rounded p q h1 h2 told = next p (left_parenthesis_is p h1) (join told (next q (right_parenthesis_is q h2) none))
 
-squared : {xs : Tokens} {us : List Spelled} (p q : Spelled) → Is (left_bracket ∷ []) p → Is (right_bracket ∷ []) q → Tells xs us → Tells (square xs) (p ∷ (us ++ q ∷ []))
+pub squared : {xs : Tokens} {us : List Spelled} (p q : Spelled) → Is (left_bracket ∷ []) p → Is (right_bracket ∷ []) q → Tells xs us → Tells (square xs) (p ∷ (us ++ q ∷ []))
 squared p q h1 h2 told = next p (left_bracket_is p h1) (join told (next q (right_bracket_is q h2) none))
 
-curled : {xs : Tokens} {us : List Spelled} (p q : Spelled) → Is (left_brace ∷ []) p → Is (right_brace ∷ []) q → Tells xs us → Tells (curly xs) (p ∷ (us ++ q ∷ []))
+pub curled : {xs : Tokens} {us : List Spelled} (p q : Spelled) → Is (left_brace ∷ []) p → Is (right_brace ∷ []) q → Tells xs us → Tells (curly xs) (p ∷ (us ++ q ∷ []))
 curled p q h1 h2 told = next p (left_brace_is p h1) (join told (next q (right_brace_is q h2) none))
 
 -- in parentheses, and then others
@@ -56,33 +56,33 @@ rounded_then {us} {vs} p q h1 h2 told others = both refl (sym (ap (λ w. p ∷ w
 -- Lists ---------------------------------------------------------------------------------------------------------------------------------
 
 -- a list of one at least
-record Filled {A : Type 0} (xs : List A) : Type 0 where
-  head : A
-  rest : List A
-  is : xs ≡ head ∷ rest
+pub record Filled {A : Type 0} (xs : List A) : Type 0 where
+  pub head : A
+  pub rest : List A
+  pub is : xs ≡ head ∷ rest
 
-filled : {A : Type 0} {xs : List A} (x : A) (rest : List A) → xs ≡ x ∷ rest → Filled xs
+pub filled : {A : Type 0} {xs : List A} (x : A) (rest : List A) → xs ≡ x ∷ rest → Filled xs
 filled x rest e = record { head = x; rest = rest; is = e }
 
 -- the last of a list
-single : {A : Type 0} (token : Lexeme) (f : A → Tokens) (x : A) {us : List Spelled} → Tells (f x) us → Tells (between token (map f (x ∷ []))) us
+pub single : {A : Type 0} (token : Lexeme) (f : A → Tokens) (x : A) {us : List Spelled} → Tells (f x) us → Tells (between token (map f (x ∷ []))) us
 single token f x told = both (append-nil (f x)) refl told
 
 more : {A : Type 0} (token : Lexeme) (f : A → Tokens) {xs : List A} → Filled xs → flat_map (λ tokens. token ∷ tokens) (map f xs) ≡ token ∷ between token (map f xs)
 more token f full = subst (λ z. flat_map (λ tokens. token ∷ tokens) (map f z) ≡ token ∷ between token (map f z)) (sym full.is) refl
 
 -- one, and a token before the others
-listed : {A : Type 0} {token : Lexeme} (f : A → Tokens) (x : A) {rest : List A} {us vs : List Spelled} (c : Spelled) → Filled rest → lexeme c ≡ token → Tells (f x) us
+pub listed : {A : Type 0} {token : Lexeme} (f : A → Tokens) (x : A) {rest : List A} {us vs : List Spelled} (c : Spelled) → Filled rest → lexeme c ≡ token → Tells (f x) us
     → Tells (between token (map f rest)) vs → Tells (between token (map f (x ∷ rest))) (us ++ c ∷ vs)
 listed {token} f x {rest} c full e first others = both (ap (λ w. f x ++ w) (more token f full)) refl (join first (next c e others))
 
 -- Types ---------------------------------------------------------------------------------------------------------------------------------
 
-path_filled : {path : List (List ℕ)} {ts : List Spelled} → IsPath path ts → Filled path
+pub path_filled : {path : List (List ℕ)} {ts : List Spelled} → IsPath path ts → Filled path
 path_filled (path_end k h1 h2 h3) = filled k.text [] h3
 path_filled (path_more k d h1 h2 h3 h4 h5) = filled k.text _ h5
 
-path_tells : {path : List (List ℕ)} {ts : List Spelled} → IsPath path ts → Tells (flat_path path) ts
+pub path_tells : {path : List (List ℕ)} {ts : List Spelled} → IsPath path ts → Tells (flat_path path) ts
 path_tells (path_end k h1 h2 h3) = both (ap flat_path h3) h2 (next k (name_is k h1) none)
 path_tells (path_more {us} k d h1 h2 h3 h4 h5) =
     both (ap flat_path h5) h4 (listed (λ text. record { kind = Ident; text = text } ∷ []) k.text {us = k ∷ []} d (path_filled h3) (dot_is d h2) (next k (name_is k h1) none) (path_tells h3))
@@ -95,7 +95,7 @@ args_filled : {args : List TypeTerm} → Filled args → flat_type_args (map fla
 args_filled full = subst (λ z. flat_type_args (map flat_type z) ≡ square (commas (map flat_type z))) (sym full.is) refl
 
 mutual
-  type_tells : {n : ℕ} {t : TypeTerm} {ts : List Spelled} → IsType n t ts → Tells (flat_type t) ts
+  pub type_tells : {n : ℕ} {t : TypeTerm} {ts : List Spelled} → IsType n t ts → Tells (flat_type t) ts
   type_tells (type_plain h1 h2 h3) = both (ap flat_type h2 ∙ (flat_type_term _ _ _ ∙ append-nil _)) refl (path_tells h1)
   type_tells (type_applied {path} k j h1 h2 h3 h4 h5 h6 h7) =
       both (ap flat_type h6 ∙ (flat_type_term _ _ _ ∙ ap (λ w. flat_path path ++ w) (args_filled (types_filled h3)))) h5 (join (path_tells h1) (squared k j h2 h4 (types_tell h3)))
@@ -148,11 +148,11 @@ stmts_filled (stmts_end h1 h2) = filled _ [] h2
 stmts_filled (stmts_more c h1 h2 h3 h4 h5 h6) = filled _ _ h5
 
 -- `NAME = EXPR`
-field_tells : (x : Expr) {us : List Spelled} (k s : Spelled) → Is names k → Is (equals ∷ []) s → Tells (flat_expr x) us → Tells (flat_field (field k.text x)) (k ∷ s ∷ us)
+pub field_tells : (x : Expr) {us : List Spelled} (k s : Spelled) → Is names k → Is (equals ∷ []) s → Tells (flat_expr x) us → Tells (flat_field (field k.text x)) (k ∷ s ∷ us)
 field_tells x k s h1 h2 told = both (flat_field_is _ _) refl (next k (name_is k h1) (next s (equals_is s h2) told))
 
 mutual
-  expr_tells : {level n : ℕ} {e : Expr} {ts : List Spelled} → IsExpr level n e ts → Tells (flat_expr e) ts
+  pub expr_tells : {level n : ℕ} {e : Expr} {ts : List Spelled} → IsExpr level n e ts → Tells (flat_expr e) ts
   expr_tells (literal k h1 h2 h3 h4 h5) = both (ap flat_expr h3 ∙ flat_literal_expr _ _ _) h2 (next k refl none)
   expr_tells (name k h1 h2 h3 h4 h5) = both (ap flat_expr h3 ∙ flat_name _ _) h2 (next k (name_is k h1) none)
   expr_tells (this k h1 h2 h3 h4 h5) = both (ap flat_expr h3 ∙ flat_this _) h2 (next k (this_word_is k h1) none)
@@ -214,7 +214,7 @@ mutual
   some_stmts_tell (stmts_end h1 h2) = both (ap flat_statements h2) refl (single end flat_stmt _ (stmt_tells h1))
   some_stmts_tell (stmts_more c h1 h2 h3 h4 h5 h6) = both (ap flat_statements h5) h4 (listed flat_stmt _ c (stmts_filled h3) (separator_is c h2) (stmt_tells h1) (some_stmts_tell h3))
 
-  block_tells : {n : ℕ} {xs : List Stmt} {ts : List Spelled} → IsBlock n xs ts → Tells (flat_block xs) ts
+  pub block_tells : {n : ℕ} {xs : List Stmt} {ts : List Spelled} → IsBlock n xs ts → Tells (flat_block xs) ts
   block_tells (block_all p q h1 h2 h3 h4) = both refl h4 (curled p q h1 h3 (stmts_tell h2))
 
   stmt_tells : {n : ℕ} {x : Stmt} {ts : List Spelled} → IsStmt n x ts → Tells (flat_stmt x) ts

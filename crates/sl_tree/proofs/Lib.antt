@@ -10,3 +10,7 @@ pub mod Spellings
 pub mod FlatLayers
 -- the tokens of a tree as they are written are the tokens that it is of
 pub mod FlatIs
+-- the tokens of each form of declaration, from the tokens of its parts
+pub mod FlatDeclarationLayers
+-- the tokens of a declaration as they are written are the tokens that it is of
+pub mod FlatDeclarations

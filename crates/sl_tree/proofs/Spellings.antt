@@ -8,7 +8,7 @@ use Rattle.sl_text.specs.declared.token.Kind.{Kind}
 use Rattle.sl_text.specs.declared.token.Kind.TheVariants.{Ident, Word, Number, Quoted, Letter, Symbol, Prefixed, Operator, Mark, Separator}
 use Rattle.sl_grammar.specs.Grammar.{has}
 use Rattle.sl_tree.specs.declared.tree.Lexeme.{Lexeme}
-use Rattle.sl_tree.specs.Sorts.{Spelled, sort, sort_of, sort_of_name, sort_of_word, sort_of_prefixed, sort_of_separator, sort_of_operator, sort_of_mark, lexeme, left_parenthesis, right_parenthesis, left_bracket, right_bracket, left_brace, right_brace, comma, dot, underscore, colon, equals, double_arrow, left_arrow, other, if_word, else_word, match_word, case_word, val_word, var_word, while_word, for_word, return_word, this_word, plain_name, truth_name, until_name, to_name, contract_name, number, quoted, letter, prefixed, prefixed_l, separator, or_operator, and_operator, equal_operator, less_operator, append_operator, plus_operator, times_operator, minus, exclamation, tilde}
+use Rattle.sl_tree.specs.Sorts.{Spelled, sort, sort_of, sort_of_name, sort_of_word, sort_of_prefixed, sort_of_separator, sort_of_operator, sort_of_mark, lexeme, left_parenthesis, right_parenthesis, left_bracket, right_bracket, left_brace, right_brace, comma, dot, underscore, colon, equals, double_arrow, left_arrow, at_sign, other, if_word, else_word, match_word, case_word, val_word, var_word, while_word, for_word, return_word, this_word, plain_name, truth_name, until_name, to_name, contract_name, number, quoted, letter, prefixed, prefixed_l, separator, or_operator, and_operator, equal_operator, less_operator, append_operator, plus_operator, times_operator, minus, exclamation, tilde, package_word, import_word, class_word, object_word, trait_word, extends_word, with_word, def_word, override_word, symbol}
 use Rattle.sl_tree.specs.WellShaped.{Is, names, operators}
 use Rattle.sl_tree.specs.Flat.{name, word, mark, operator, end, flat_let, flat_until}
 
@@ -28,6 +28,7 @@ fixed of =
     else if of == equals then Some (mark (codes "="))
     else if of == double_arrow then Some (mark (codes "=>"))
     else if of == left_arrow then Some (mark (codes "<-"))
+    else if of == at_sign then Some (mark (codes "@"))
     else if of == if_word then Some (word (codes "if"))
     else if of == else_word then Some (word (codes "else"))
     else if of == match_word then Some (word (codes "match"))
@@ -42,6 +43,15 @@ fixed of =
     else if of == to_name then Some (name (codes "to"))
     else if of == separator then Some end
     else if of == minus then Some (operator (codes "-"))
+    else if of == package_word then Some (word (codes "package"))
+    else if of == import_word then Some (word (codes "import"))
+    else if of == class_word then Some (word (codes "class"))
+    else if of == object_word then Some (word (codes "object"))
+    else if of == trait_word then Some (word (codes "trait"))
+    else if of == extends_word then Some (word (codes "extends"))
+    else if of == with_word then Some (word (codes "with"))
+    else if of == def_word then Some (word (codes "def"))
+    else if of == override_word then Some (word (codes "override"))
     else None
 
 -- the kind of the tokens of a sort, where it is an identifier or an operator
@@ -87,7 +97,8 @@ fits_mark text =
     (here Mark text (codes ":") colon (refl, tt)
     (here Mark text (codes "=") equals (refl, tt)
     (here Mark text (codes "=>") double_arrow (refl, tt)
-    (here Mark text (codes "<-") left_arrow (refl, tt) (fit other (tt, tt))))))))))))))
+    (here Mark text (codes "<-") left_arrow (refl, tt)
+    (here Mark text (codes "@") at_sign (refl, tt) (fit other (tt, tt)))))))))))))))
 
 fits_word : (text : List ℕ) → Fits (sort_of_word text) (word text)
 unfolding sort_of_word fixed kind_of
@@ -101,7 +112,16 @@ fits_word text =
     (here Word text (codes "while") while_word (refl, tt)
     (here Word text (codes "for") for_word (refl, tt)
     (here Word text (codes "return") return_word (refl, tt)
-    (here Word text (codes "this") this_word (refl, tt) (fit other (tt, tt)))))))))))
+    (here Word text (codes "this") this_word (refl, tt)
+    (here Word text (codes "package") package_word (refl, tt)
+    (here Word text (codes "import") import_word (refl, tt)
+    (here Word text (codes "class") class_word (refl, tt)
+    (here Word text (codes "object") object_word (refl, tt)
+    (here Word text (codes "trait") trait_word (refl, tt)
+    (here Word text (codes "extends") extends_word (refl, tt)
+    (here Word text (codes "with") with_word (refl, tt)
+    (here Word text (codes "def") def_word (refl, tt)
+    (here Word text (codes "override") override_word (refl, tt) (fit other (tt, tt))))))))))))))))))))
 
 fits_name : (text : List ℕ) → Fits (sort_of_name text) (name text)
 unfolding sort_of_name fixed kind_of
@@ -158,7 +178,7 @@ fits Word text = fits_word text
 fits Number text = fit number (tt, tt)
 fits Quoted text = fit quoted (tt, tt)
 fits Letter text = fit letter (tt, tt)
-fits Symbol text = fit other (tt, tt)
+fits Symbol text = fit symbol (tt, tt)
 fits Prefixed text = fits_prefixed text
 fits Operator text = fits_operator text
 fits Mark text = fits_mark text
@@ -281,6 +301,46 @@ return_word_is k is = one return_word k is
 pub this_word_is : (k : Spelled) → Is (this_word ∷ []) k → lexeme k ≡ word (codes "this")
 unfolding fixed
 this_word_is k is = one this_word k is
+
+pub at_sign_is : (k : Spelled) → Is (at_sign ∷ []) k → lexeme k ≡ mark (codes "@")
+unfolding fixed
+at_sign_is k is = one at_sign k is
+
+pub package_word_is : (k : Spelled) → Is (package_word ∷ []) k → lexeme k ≡ word (codes "package")
+unfolding fixed
+package_word_is k is = one package_word k is
+
+pub import_word_is : (k : Spelled) → Is (import_word ∷ []) k → lexeme k ≡ word (codes "import")
+unfolding fixed
+import_word_is k is = one import_word k is
+
+pub class_word_is : (k : Spelled) → Is (class_word ∷ []) k → lexeme k ≡ word (codes "class")
+unfolding fixed
+class_word_is k is = one class_word k is
+
+pub object_word_is : (k : Spelled) → Is (object_word ∷ []) k → lexeme k ≡ word (codes "object")
+unfolding fixed
+object_word_is k is = one object_word k is
+
+pub trait_word_is : (k : Spelled) → Is (trait_word ∷ []) k → lexeme k ≡ word (codes "trait")
+unfolding fixed
+trait_word_is k is = one trait_word k is
+
+pub extends_word_is : (k : Spelled) → Is (extends_word ∷ []) k → lexeme k ≡ word (codes "extends")
+unfolding fixed
+extends_word_is k is = one extends_word k is
+
+pub with_word_is : (k : Spelled) → Is (with_word ∷ []) k → lexeme k ≡ word (codes "with")
+unfolding fixed
+with_word_is k is = one with_word k is
+
+pub def_word_is : (k : Spelled) → Is (def_word ∷ []) k → lexeme k ≡ word (codes "def")
+unfolding fixed
+def_word_is k is = one def_word k is
+
+pub override_word_is : (k : Spelled) → Is (override_word ∷ []) k → lexeme k ≡ word (codes "override")
+unfolding fixed
+override_word_is k is = one override_word k is
 
 pub minus_is : (k : Spelled) → Is (minus ∷ []) k → lexeme k ≡ operator (codes "-")
 unfolding fixed

@@ -59,6 +59,10 @@ double_arrow = 11
 abbrev pub left_arrow : ℕ
 left_arrow = 12
 
+-- `@`
+abbrev pub at_sign : ℕ
+at_sign = 13
+
 abbrev pub if_word : ℕ
 if_word = 14
 
@@ -160,6 +164,37 @@ times_operator = 57
 abbrev pub other : ℕ
 other = 60
 
+-- the words that stand in declarations alone, and a Symbol
+abbrev pub package_word : ℕ
+package_word = 61
+
+abbrev pub import_word : ℕ
+import_word = 62
+
+abbrev pub class_word : ℕ
+class_word = 63
+
+abbrev pub object_word : ℕ
+object_word = 64
+
+abbrev pub trait_word : ℕ
+trait_word = 65
+
+abbrev pub extends_word : ℕ
+extends_word = 66
+
+abbrev pub with_word : ℕ
+with_word = 67
+
+abbrev pub def_word : ℕ
+def_word = 68
+
+abbrev pub override_word : ℕ
+override_word = 69
+
+abbrev pub symbol : ℕ
+symbol = 70
+
 unfoldable pub sort_of_mark : List ℕ → ℕ
 sort_of_mark text =
     if bytes_eq text (codes "(") then left_parenthesis
@@ -175,6 +210,7 @@ sort_of_mark text =
     else if bytes_eq text (codes "=") then equals
     else if bytes_eq text (codes "=>") then double_arrow
     else if bytes_eq text (codes "<-") then left_arrow
+    else if bytes_eq text (codes "@") then at_sign
     else other
 
 unfoldable pub sort_of_word : List ℕ → ℕ
@@ -189,6 +225,15 @@ sort_of_word text =
     else if bytes_eq text (codes "for") then for_word
     else if bytes_eq text (codes "return") then return_word
     else if bytes_eq text (codes "this") then this_word
+    else if bytes_eq text (codes "package") then package_word
+    else if bytes_eq text (codes "import") then import_word
+    else if bytes_eq text (codes "class") then class_word
+    else if bytes_eq text (codes "object") then object_word
+    else if bytes_eq text (codes "trait") then trait_word
+    else if bytes_eq text (codes "extends") then extends_word
+    else if bytes_eq text (codes "with") then with_word
+    else if bytes_eq text (codes "def") then def_word
+    else if bytes_eq text (codes "override") then override_word
     else other
 
 unfoldable pub sort_of_name : List ℕ → ℕ
@@ -241,7 +286,7 @@ sort_of Word text = sort_of_word text
 sort_of Number text = number
 sort_of Quoted text = quoted
 sort_of Letter text = letter
-sort_of Symbol text = other
+sort_of Symbol text = symbol
 sort_of Prefixed text = sort_of_prefixed text
 sort_of Operator text = sort_of_operator text
 sort_of Mark text = sort_of_mark text
@@ -274,7 +319,8 @@ example_mark of =
     else if of == colon then made Mark (codes ":")
     else if of == equals then made Mark (codes "=")
     else if of == double_arrow then made Mark (codes "=>")
-    else made Mark (codes "<-")
+    else if of == left_arrow then made Mark (codes "<-")
+    else made Mark (codes "@")
 
 abbrev pub example_word : ℕ → Spelled
 example_word of =
@@ -314,12 +360,26 @@ example_operator of =
     else if of == less_operator then made Operator (codes "<")
     else if of == append_operator then made Operator (codes ":+")
     else if of == plus_operator then made Operator (codes "+")
-    else if of == times_operator then made Operator (codes "*")
-    else made Symbol (codes "'a")
+    else made Operator (codes "*")
+
+abbrev pub example_declaring : ℕ → Spelled
+example_declaring of =
+    if of == package_word then made Word (codes "package")
+    else if of == import_word then made Word (codes "import")
+    else if of == class_word then made Word (codes "class")
+    else if of == object_word then made Word (codes "object")
+    else if of == trait_word then made Word (codes "trait")
+    else if of == extends_word then made Word (codes "extends")
+    else if of == with_word then made Word (codes "with")
+    else if of == def_word then made Word (codes "def")
+    else if of == override_word then made Word (codes "override")
+    else if of == symbol then made Symbol (codes "'a")
+    else made Operator (codes "?")
 
 unfoldable pub example : ℕ → Spelled
 example of =
     if nat_lt of if_word then example_mark of
     else if nat_lt of plain_name then example_word of
     else if nat_lt of exclamation then example_name of
-    else example_operator of
+    else if nat_lt of other then example_operator of
+    else example_declaring of

@@ -1,0 +1,24 @@
+-- Why files are read as the grammar has them.
+
+-- each rule passes the test
+pub mod Good
+-- the laws of what is read in its own way: types, expressions, blocks and the library's import
+pub mod Own
+-- one and more phrases with a token between each two
+pub mod Lists
+-- the span of what a form reads, and what is owed of each name (`To`, `Back`)
+pub mod Spans
+-- each name spells just its well-shaped trees: paths, imports, packages, type parameters and the names of an enum
+pub mod SeenNames
+-- notes, parameters, parents and members
+pub mod SeenMembers
+-- declarations and files
+pub mod SeenFiles
+-- all of them
+pub mod Seen
+-- what is within a limit is so without one
+pub mod Wider
+-- the laws of the whole
+pub mod Laws
+-- tokens have one tree at most
+pub mod OneTree

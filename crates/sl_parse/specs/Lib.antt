@@ -1,0 +1,10 @@
+-- The grammar of declarations and files: the definitions, in reading order.
+
+-- its names and their rules, as data
+pub mod Names
+-- what the names read, and the trees that are made of it
+pub mod Values
+-- the grammar as a whole: the kinds of tokens that begin each name, what it spells, and how it is read (`read`)
+pub mod Grammar
+-- what a function tells of what a reader finds
+pub mod Told
