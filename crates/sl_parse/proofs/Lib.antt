@@ -22,3 +22,35 @@ pub mod Wider
 pub mod Laws
 -- tokens have one tree at most
 pub mod OneTree
+-- tokens, and the fault where another one stands
+pub mod AtTokens
+-- which forms pass the test of the grammar, as a test that computes
+pub mod Fine
+-- what is told of a whole follows from what is told of its parts: what they find, and their faults
+pub mod Telling
+-- loops, as the code reads what repeats
+pub mod Listing
+-- rules as the code reads them, part by part: names and types in lists
+pub mod NamesRead
+-- packages
+pub mod PackagesRead
+-- the library's import
+pub mod LibraryRead
+-- imports
+pub mod ImportsRead
+-- notes
+pub mod NotesRead
+-- parameters and parents
+pub mod ParamsRead
+-- methods
+pub mod MethodsRead
+-- members
+pub mod MembersRead
+-- declarations
+pub mod DeclarationsRead
+-- loops over phrases
+pub mod LoopsRead
+-- files
+pub mod FilesRead
+-- what is answered of a file
+pub mod FilesAnswered

@@ -8,3 +8,5 @@ pub mod Values
 pub mod Grammar
 -- what a function tells of what a reader finds
 pub mod Told
+-- what is answered of a file (`Parsed`)
+pub mod Answers

@@ -1,4 +1,17 @@
-//! The grammar of declarations and files, around the types, expressions and blocks that sl_parse_expr reads: definitions and laws.
-//! `specs/` has the grammar as data and how it is read, `proofs/` that it can be read so, that what it spells are the well-shaped trees of
-//! sl_tree, and that tokens have one tree at most. The code that reads by it isn't here yet.
+//! Files are read: `parse` finds the tree of a file from its tokens, or the first token from which no file goes on, and the rule that it
+//! breaks. It reads declarations, members, notes and imports, around the types, expressions and blocks that sl_parse_expr reads. `specs/`
+//! has the grammar and what is answered.
 #![tactic(auto)]
+
+mod declarations;
+mod file;
+mod imports;
+mod library;
+mod members;
+mod names;
+mod notes;
+mod params;
+mod phrases;
+mod tokens;
+
+pub use file::parse;

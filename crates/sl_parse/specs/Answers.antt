@@ -1,0 +1,53 @@
+-- What `parse` answers: the tree of a file, or the rule that it breaks and where: G6 where files go on but nest too deep, G2 in the library's
+-- import, and else G1.
+--
+-- Tokens are taken with their bytes, as sl_parse_expr takes them (`behind`).
+use Rattle.std.specs.Prelude.{◌≡◌, ℕ, List, [], ◌∷◌, ◌++◌, length, drop, Some, None, ◌⊎◌}
+use Rattle.std.specs.declared.result.Result.{Result}
+use Rattle.std.specs.declared.result.Result.TheVariants.{Ok, Err}
+use Rattle.sl_text.specs.declared.token.Token.{Token as TokenOf}
+use Rattle.sl_text.specs.declared.fault.Fault.{Fault}
+use Rattle.sl_text.specs.declared.fault.Fault.TheVariants as fault
+use Rattle.sl_text.specs.Places.{feeds_from}
+use Rattle.sl_grammar.specs.Phrase.{Begins, IsFront}
+use Rattle.sl_tree.specs.Sorts.{Spelled}
+use Rattle.sl_tree.specs.Declarations.{IsPackage, IsLibrary, IsFile}
+use Rattle.sl_tree.specs.declared.tree.File.{File}
+use Rattle.sl_parse_expr.specs.Told.{behind}
+use Rattle.sl_parse_expr.specs.Answers.{place, rule}
+
+-- these are the tokens of a file, however deep it nests; of one whose types, expressions and blocks nest no deeper than 64. Where its line
+-- feeds stand, tokens don't tell.
+abbrev pub AnyFile : File → List Spelled → Type 0
+AnyFile x ts = IsFile None [] x ts
+
+abbrev pub FileWithin : File → List Spelled → Type 0
+FileWithin x ts = IsFile (Some 64) [] x ts
+
+-- a file goes on with the next token, and each that does so is too deep
+abbrev pub IsTooDeep : (used rest : List Spelled) → Type 0
+IsTooDeep used rest = (k : Spelled) × (more : List Spelled) × (rest ≡ k ∷ more) × Begins AnyFile (used ++ k ∷ []) × ¬ Begins FileWithin (used ++ k ∷ [])
+
+-- no file goes on with the next token, however deep; or there is none, and these are no file
+abbrev pub IsWrong : (used rest : List Spelled) → Type 0
+IsWrong used rest = IsFront AnyFile used rest × (rest ≡ [] → (x : File) → ¬ AnyFile x used)
+
+-- a token stands where the library's import goes on with another one
+abbrev pub IsInLibrary : (used rest : List Spelled) → Type 0
+IsInLibrary used rest =
+    (rest ≡ [] → ⊥) × (path : List (List ℕ)) × (us : List Spelled) × (vs : List Spelled) × (used ≡ us ++ vs) × IsPackage path us
+    × (k : Spelled) × (more : List Spelled) × IsLibrary (vs ++ k ∷ more)
+
+-- a rule of this number is broken behind `used`
+abbrev pub IsBroken : ℕ → (used rest : List Spelled) → Type 0
+IsBroken number used rest =
+    ((number ≡ 6) × IsTooDeep used rest) ⊎ (((number ≡ 2) × IsWrong used rest × IsInLibrary used rest) ⊎ ((number ≡ 1) × IsWrong used rest × ¬ IsInLibrary used rest))
+
+-- what is answered of a file of this number, with these bytes and tokens: its tree; or the broken rule, and the token that breaks it, or the
+-- end of the bytes; or want of memory
+abbrev pub Parsed : ℕ → List ℕ → List TokenOf → Result File Fault → Type 0
+Parsed file bytes tokens (Ok x) = IsFile (Some 64) (feeds_from 0 bytes) x (behind bytes tokens 0)
+Parsed file bytes tokens (Err (fault.Broken broken)) =
+    (number : ℕ) × (used : List Spelled) × (rest : List Spelled) × (behind bytes tokens 0 ≡ used ++ rest) × Begins FileWithin used × IsBroken number used rest
+    × (broken ≡ record { rule = rule number; span = place file bytes (drop (length used) tokens) })
+Parsed file bytes tokens (Err fault.Mem) = Unit {0}
