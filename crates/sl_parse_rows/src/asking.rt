@@ -1,4 +1,5 @@
 // The parser is asked.
+use crate::files::{Asked, push_asked};
 use crate::printing::page::{BASE, Page, behind_header};
 use crate::printing::trees::{push_expr, push_stmts};
 use crate::printing::types::push_type;
@@ -15,14 +16,15 @@ const HEADER: &[u8] = b"// #Sireum\n";
 pub const FILE: u32 = 7;
 
 /// The greatest length of a file.
-const MOST: usize = 4_194_304;
+pub const MOST: usize = 4_194_304;
 
-/// Which call is asked.
+/// Which call is asked. A file begins with its first token and stands in no node.
 #[derive(Clone, Copy)]
 pub enum Phrase {
     Type,
     Expr,
     Block,
+    File,
 }
 
 /// Where the phrase begins: the number of its file, the index of its first token, and how many nodes it stands in.
@@ -42,11 +44,12 @@ pub fn first(depth: u32) -> Place {
     }
 }
 
-/// The bytes of a file, and its tokens.
+/// The bytes of a file, and its tokens, of which the first are shown.
 #[derive(Drop)]
 pub struct Source {
     bytes: Vec<u8>,
     tokens: Row<Token>,
+    shown: usize,
 }
 
 impl Source {
@@ -55,7 +58,14 @@ impl Source {
         let mut bytes = Vec::from_slice(alloc, HEADER)?;
         bytes.extend_from_slice(text.as_bytes())?;
         match tokens(alloc, file, bytes.as_slice()) {
-            Ok(tokens) => Ok(Source { bytes, tokens }),
+            Ok(tokens) => {
+                let shown = tokens.len();
+                Ok(Source {
+                    bytes,
+                    tokens,
+                    shown,
+                })
+            }
             Err(_) => Err("no tokens".into()),
         }
     }
@@ -63,6 +73,17 @@ impl Source {
     /// How many tokens there are.
     pub fn count(&self) -> usize {
         self.tokens.len()
+    }
+
+    /// Where a token stands, counted from the end of the header line.
+    pub fn place_of(&self, at: usize) -> Option<(u32, u32)> {
+        let token = self.tokens.as_slice().get(at)?;
+        behind_header(token.span.file, token.span)
+    }
+
+    /// Shows so many tokens.
+    pub fn show(&mut self, count: usize) {
+        self.shown = count;
     }
 
     /// Whether a span is that of a token, or the end of the file.
@@ -75,18 +96,19 @@ impl Source {
         span.file == file && span.from as usize == self.bytes.len() && span.to == span.from
     }
 
-    /// What is answered: the tree and how many tokens are left, or the rule that is broken and the place.
+    /// What is answered: the tree and how many tokens are left, of a file the tree alone, or the rule that is broken and the place.
     pub fn told(&self, alloc: Global, phrase: Phrase, place: Place) -> Result<String, Fail> {
         let mut page = Page::new(alloc, place.file);
         match self.asked(alloc, phrase, place, &mut page)? {
-            Ok(next) => {
-                let left = match self.tokens.len().checked_sub(next) {
+            Ok(Some(next)) => {
+                let left = match self.shown.checked_sub(next) {
                     Some(left) => format!(in alloc; " rest {left}")?,
                     None => format!(in alloc; " beyond")?,
                 };
                 page.push(left.as_str())?;
                 Ok(page.into_text())
             }
+            Ok(None) => Ok(page.into_text()),
             Err(Fault::Broken(Broken { rule, span })) => {
                 if !self.has(place.file, span) {
                     return Err("no token's span".into());
@@ -97,17 +119,19 @@ impl Source {
         }
     }
 
-    /// Prints the tree, and gives the index behind it.
+    /// Prints the tree, and gives the index behind it, if it isn't that of a file.
     fn asked(
         &self,
         alloc: Global,
         phrase: Phrase,
         place: Place,
         page: &mut Page,
-    ) -> Result<Result<usize, Fault>, Fail> {
+    ) -> Result<Result<Option<usize>, Fault>, Fail> {
         let Place { file, at, depth } = place;
         let bytes = self.bytes.as_slice();
-        let all = self.tokens.as_slice();
+        let Some(all) = self.tokens.as_slice().get(..self.shown) else {
+            return Err("no such tokens".into());
+        };
         if bytes.len() > MOST || at > all.len() {
             return Err("no such place".into());
         }
@@ -115,14 +139,14 @@ impl Source {
             Phrase::Type => match type_term(alloc, file, bytes, all, at, depth) {
                 Ok((of, next)) => {
                     push_type(page, &of)?;
-                    Ok(Ok(next))
+                    Ok(Ok(Some(next)))
                 }
                 Err(fault) => Ok(Err(fault)),
             },
             Phrase::Expr => match expr(alloc, file, bytes, all, at, depth) {
                 Ok((of, next)) => {
                     push_expr(page, &of)?;
-                    Ok(Ok(next))
+                    Ok(Ok(Some(next)))
                 }
                 Err(fault) => Ok(Err(fault)),
             },
@@ -131,10 +155,21 @@ impl Source {
                     page.push("{")?;
                     push_stmts(page, of.as_slice())?;
                     page.push("}")?;
-                    Ok(Ok(next))
+                    Ok(Ok(Some(next)))
                 }
                 Err(fault) => Ok(Err(fault)),
             },
+            Phrase::File => {
+                let of = Asked {
+                    file,
+                    bytes,
+                    tokens: all,
+                };
+                match push_asked(alloc, of, page)? {
+                    Ok(()) => Ok(Ok(None)),
+                    Err(fault) => Ok(Err(fault)),
+                }
+            }
         }
     }
 }

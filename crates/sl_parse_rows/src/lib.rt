@@ -1,14 +1,18 @@
-//! Tests of the parser of types, expressions and blocks, as tables of rows: which text is answered with which tree, or which rule it
-//! breaks and where. There is no other code here. How a table is written stands in `rows`, how a tree is printed in `printing`.
+//! Tests of the parser of types, expressions, blocks and files, as tables of rows: which text is answered with which tree, or which rule
+//! it breaks and where. There is no other code here. How a table is written stands in `rows`, how a tree is printed in `printing`.
 //!
-//! The answers in the tables come from an Earley reader. It was written apart from the product, from the definition of well-shaped
-//! trees, and isn't kept in the repository.
+//! The answers in the tables come from Earley readers, one of files and one of all else. They were written apart from the product, from
+//! the definition of well-shaped trees, and aren't kept in the repository.
 #![tactic(auto)]
 
 #[cfg(test)]
 mod asking;
 #[cfg(test)]
+mod files;
+#[cfg(test)]
 mod nested;
+#[cfg(test)]
+mod prefixes;
 #[cfg(test)]
 mod printing;
 #[cfg(test)]
@@ -16,6 +20,10 @@ mod replaced;
 #[cfg(test)]
 mod rows;
 #[cfg(test)]
+mod swept;
+#[cfg(test)]
 mod tables;
 #[cfg(test)]
 mod tests;
+#[cfg(test)]
+mod tests_files;

@@ -3,7 +3,7 @@
 // In a table a line `=HEAD$OPEN$CORE$CLOSE$TAIL` is followed by lines TIMES $ DEPTH $ ANSWER: of HEAD, so many times OPEN, CORE, so
 // many times CLOSE, and TAIL. An answer has the checksum of a printed tree for the tree.
 use crate::asking::{Phrase, told};
-use crate::rows::{agrees, checksum_of, fed, number, split, text_of};
+use crate::rows::{agrees, fed, number, split, summed, text_of};
 use std::alloc::Global;
 use std::test::Fail;
 
@@ -68,24 +68,13 @@ fn built(alloc: Global, parts: Parts<'_>, times: u32) -> Result<String, Fail> {
     fed(alloc, text.as_str())
 }
 
-/// An answer with the checksum of a tree for the tree.
-fn short(alloc: Global, told: &str) -> Result<String, Fail> {
-    Ok(match told.rsplit_once(" rest ") {
-        Some((tree, left)) => {
-            let checksum = checksum_of(0, tree) % 1_000_000;
-            format!(in alloc; "rest {left} checksum {checksum}")?
-        }
-        None => format!(in alloc; "{told}")?,
-    })
-}
-
 /// What is answered of a row of these parts is what it says.
 fn times_hold(alloc: Global, phrase: Phrase, parts: Parts<'_>, line: &str) -> Result<(), Fail> {
     let (times, rest) = split(line)?;
     let (depth, comes) = split(rest)?;
     let text = built(alloc, parts, number(times)?)?;
     let told = told(alloc, phrase, text.as_str(), number(depth)?)?;
-    let short = short(alloc, told.as_str())?;
+    let short = summed(alloc, told.as_str())?;
     let Parts { head, open, .. } = parts;
     let what = format!(in alloc; "{head}{open}: {line}")?;
     agrees(alloc, what.as_str(), short.as_str(), comes)

@@ -1,11 +1,13 @@
 // Phrases in which each token is cut off, left out, and replaced by each of some tokens, and phrases with each of them behind the end.
 //
 // In a table a line `$ DEPTH $ TEXT` gives a phrase; the tokens of its text have one blank between them. It is followed by a line
-// TOKEN $ LISTING $ CHECKSUM for each of its tokens, and by one for `END`. The listing has all of TOKENS but those for which the answer
-// is G1 just at the token that is replaced. Before the first of several with one answer stands that answer, without the tree. The
-// checksum is that of all answers, trees and places included.
+// TOKEN $ LISTING $ CHECKSUM for each of its tokens, and by one for `END`. The listing has all of TOKENS, and for files of DECLARING, but
+// those for which the answer is G1 just at the token that is replaced. Before the first of several with one answer stands that answer,
+// without the tree. The checksum is that of all answers, trees and places included.
+//
+// In a line `$ DEPTH $ HEAD $ TEXT` the phrase begins with HEAD, and has no rows of its tokens.
 use crate::asking::{Phrase, told};
-use crate::rows::{agrees, checksum_of, fed, number, split, text_of};
+use crate::rows::{agrees, checksum_of, fed, number, parted, split, text_of};
 use std::alloc::Global;
 use std::test::Fail;
 
@@ -13,6 +15,17 @@ use std::test::Fail;
 /// apart, and of none.
 const TOKENS: &str =
     r#"CUT NONE ; ( ) [ ] { } , . _ : = => <- if else match case val var while for return this a T until to Contract 1 "" 'c' s"" l"" ! ~ - | & == < :+ + * 'a def @ #"#;
+
+/// What is put besides where files are asked for.
+const DECLARING: &str = "package import class object trait extends with override org sireum";
+
+/// All that is put.
+fn tokens_of(phrase: Phrase) -> &'static [&'static str] {
+    match phrase {
+        Phrase::File => &[TOKENS, DECLARING],
+        _ => &[TOKENS],
+    }
+}
 
 /// What a row says of the answers.
 #[derive(Drop)]
@@ -24,8 +37,8 @@ struct Listing {
 
 /// An answer without the tree.
 fn short<'a>(told: &'a str) -> &'a str {
-    match told.rfind(" rest ") {
-        Some(at) => told.get(at..).unwrap_or(told),
+    match parted(told) {
+        Some((_, other)) => other,
         None => told,
     }
 }
@@ -46,7 +59,7 @@ impl Listing {
         if told == mostly {
             return Ok(());
         }
-        let answer = short(told).trim_start();
+        let answer = short(told);
         if self.last.as_str() != answer {
             self.last.clear();
             self.last.push_str(answer)?;
@@ -90,10 +103,12 @@ fn spot_holds(alloc: Global, phrase: Phrase, spot: &Spot<'_>, line: &str) -> Res
     let from = spot.before.len();
     let mostly = format!(in alloc; "G1 at {from}")?;
     let mut listing = Listing::new(alloc);
-    for token in TOKENS.split(' ') {
-        let text = replaced(alloc, spot.before, token, spot.behind)?;
-        let told = told(alloc, phrase, text.as_str(), spot.depth)?;
-        listing.push(token, told.as_str(), mostly.as_str())?;
+    for tokens in tokens_of(phrase) {
+        for token in tokens.split(' ') {
+            let text = replaced(alloc, spot.before, token, spot.behind)?;
+            let told = told(alloc, phrase, text.as_str(), spot.depth)?;
+            listing.push(token, told.as_str(), mostly.as_str())?;
+        }
     }
     let checksum = listing.checksum % 1_000_000;
     let listed = listing.text.as_str();
@@ -110,15 +125,23 @@ struct Sample {
     rest: String,
 }
 
-/// The phrase of a line DEPTH $ TEXT, before its first row is read.
+/// The phrase of a line DEPTH $ TEXT, or DEPTH $ HEAD $ TEXT, before its first row is read.
 fn read_sample(alloc: Global, line: &str) -> Result<Sample, Fail> {
-    let (depth, text) = split(line)?;
+    let (depth, phrase) = split(line)?;
+    let mut before = String::new(alloc);
     let mut rest = String::new(alloc);
-    rest.push_str(text)?;
+    match phrase.split_once(" $ ") {
+        Some((head, text)) => {
+            before.push_str(head)?;
+            before.push_str(" ")?;
+            rest.push_str(text)?;
+        }
+        None => rest.push_str(phrase)?,
+    }
     rest.push_str(" END")?;
     Ok(Sample {
         depth: number(depth)?,
-        before: String::new(alloc),
+        before,
         rest,
     })
 }

@@ -2,7 +2,8 @@
 // line feed, since neither `;` nor `$` begins a token.
 //
 // A row is TEXT $ DEPTH $ ANSWER: what stands behind the header line, how many nodes the phrase stands in, and what is answered: the tree
-// and how many tokens are left, or the rule that is broken and the place. Places are counted from the end of the header line.
+// and how many tokens are left, or the rule that is broken and the place. Of a file it is TEXT $ ANSWER. Places are counted from the end
+// of the header line.
 use crate::asking::{FILE, Phrase, Place, Source, first};
 use crate::tables::odd::Odd;
 use std::alloc::Global;
@@ -49,7 +50,10 @@ pub fn agrees(alloc: Global, what: &str, told: &str, comes: &str) -> Result<(), 
 /// What is answered of a row is what it says. Gives the number of its tokens.
 pub fn row_holds(alloc: Global, phrase: Phrase, file: u32, line: &str) -> Result<usize, Fail> {
     let (column, rest) = split(line)?;
-    let (depth, comes) = split(rest)?;
+    let (depth, comes) = match phrase {
+        Phrase::File => ("0", rest),
+        _ => split(rest)?,
+    };
     let text = fed(alloc, column)?;
     let source = Source::new(alloc, file, text.as_str())?;
     let place = Place {
@@ -119,6 +123,26 @@ fn place_holds(alloc: Global, phrase: Phrase, line: &str) -> Result<(), Fail> {
     };
     let told = source.told(alloc, phrase, place)?;
     agrees(alloc, line, told.as_str(), comes)
+}
+
+/// The tree of an answer, and what else it says: how many tokens are left, or `file`. None where a rule is broken.
+pub fn parted(told: &str) -> Option<(&str, &str)> {
+    if told.starts_with("file(") {
+        return Some((told, "file"));
+    }
+    let at = told.rfind(" rest ")?;
+    Some((told.get(..at)?, told.get(at..)?.trim_start()))
+}
+
+/// An answer with the checksum of a tree for the tree.
+pub fn summed(alloc: Global, told: &str) -> Result<String, Fail> {
+    Ok(match parted(told) {
+        Some((tree, other)) => {
+            let checksum = checksum_of(0, tree) % 1_000_000;
+            format!(in alloc; "{other} checksum {checksum}")?
+        }
+        None => format!(in alloc; "{told}")?,
+    })
 }
 
 /// A checksum of the bytes of a text, in which their order counts, that goes on from this one.

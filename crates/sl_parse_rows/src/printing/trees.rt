@@ -84,7 +84,7 @@ fn push_args(page: &mut Page, args: &[Expr]) -> Result<(), Fail> {
 
 /// Prints names with values behind a semicolon, with commas between them.
 #[cycle(trees)]
-fn push_fields(page: &mut Page, fields: &[Field]) -> Result<(), Fail> {
+pub fn push_fields(page: &mut Page, fields: &[Field]) -> Result<(), Fail> {
     let mut more = false;
     for one in fields {
         page.push_between(if more { "," } else { ";" }, &one.name, "=")?;

@@ -28,4 +28,13 @@ pub const ODD: &[Odd] = &[
     (Phrase::Block, "{\té\t}", 63, "G6 at 2"),
     (Phrase::Block, "{ é é }", 0, "G1 at 5"),
     (Phrase::Block, "{ l\"\"\"a\nb\"\"\"\nc }", 0, "{skip(Prefixed l\"\"\"a\nb\"\"\")@2-12;call(c@13-14)@13-14} rest 0"),
+    (Phrase::File, "import org.sireum._\t\n\tclass\tA\t(\tb\t:\tC\t)\t", 0, "file(class(A(b:C@36-37))@22-39)@0-39"),
+    (Phrase::File, "\r\nimport org.sireum._\r\nclass A\r\n", 0, "file(ints(A)@23-30)@2-30"),
+    (Phrase::File, "import org.sireum._\rclass A", 0, "G1 at 20"),
+    (Phrase::File, "package é\nimport org.sireum._\nimport é._\n@é(é = \"é\") class É", 0, "file(package é;import(é._)@31-42;ints(note(é;é=literal(Quoted \"é\")@52-56)@43-57 É)@43-66)@0-66"),
+    (Phrase::File, "import org.sireum._\nobject é { \"é\"\n'é } // é", 0, "file(enum(é;Quoted \"é\",Symbol 'é)@20-42)@0-42"),
+    (Phrase::File, "import org.sireum._ /* é */ é", 0, "G1 at 29"),
+    (Phrase::File, "import é", 0, "G2 at 7"),
+    (Phrase::File, "import org.sireum._\nobject A { val a = \"é\" é }", 0, "G1 at 44"),
+    (Phrase::File, "import org.sireum._\nobject A { val a = \"\"\"\n\"\"\"\nval b = c }", 0, "file(object(A {val(a=literal(Quoted \"\"\"\n\"\"\")@39-46)@31-46;val(b=c@55-56)@47-56})@20-58)@0-58"),
 ];

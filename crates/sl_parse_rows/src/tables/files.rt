@@ -1,0 +1,10 @@
+// The tables of files.
+pub mod broken;
+pub mod forms;
+pub mod layout;
+pub mod library;
+pub mod members;
+pub mod nested;
+pub mod program;
+pub mod replaced;
+pub mod swept;
