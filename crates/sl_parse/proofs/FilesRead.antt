@@ -1,40 +1,22 @@
 -- Files, as the code reads them: a package, the library's import, and items.
-use Rattle.std.proofs.Common.{◌≡◌, ℕ, List, [], ◌∷◌, ◌++◌, refl, sym, ap, ◌∙◌, true, false, inl, inr}
+use Rattle.std.proofs.Common.{◌≡◌, ℕ, List, [], ◌++◌, refl, sym, ap, ◌∙◌}
 use Rattle.sl_text.specs.declared.place.Span.{Span}
 use Rattle.sl_text.specs.declared.token.Token.{Token}
 use Rattle.sl_text.specs.declared.fault.Fault.{Fault}
 use Rattle.sl_grammar.specs.Phrase.{Found, Done, Stopped, read_both}
 use Rattle.sl_grammar.specs.Law.{found_as}
-use Rattle.sl_grammar.proofs.Growing.{found_as_as}
-use Rattle.sl_parse_expr.specs.Told.{head_sort}
-use Rattle.sl_grammar.specs.Grammar.{has, Form, Ref, Then, Val}
-use Rattle.sl_tree.specs.Sorts.{Spelled, sort, import_word, example, sort_of, sort_of_mark, sort_of_word, sort_of_name, sort_of_operator, sort_of_prefixed, sort_of_separator}
+use Rattle.sl_grammar.specs.Grammar.{Form, Ref, Then, Val}
+use Rattle.sl_tree.specs.Sorts.{Spelled, sort, example, sort_of, sort_of_mark, sort_of_word, sort_of_name, sort_of_operator, sort_of_prefixed, sort_of_separator}
 use Rattle.sl_tree.specs.WellShaped.{cover}
 use Rattle.sl_tree.specs.declared.tree.Import.{Import}
 use Rattle.sl_tree.specs.declared.tree.Decl.{Decl}
 use Rattle.sl_parse_expr.proofs.Telling.{both_done, both_first, both_second, done_as, as_stopped, stopped_as}
-use Rattle.sl_parse.specs.Names.{Name, Library, Import_of, Decl_of, Item, Package, File_of, rule_of}
+use Rattle.sl_parse.specs.Names.{Name, Library, Package, File_of, rule_of}
 use Rattle.sl_parse.specs.Values.{T_of, span_in, total}
 use Rattle.sl_parse.specs.Grammar.{Bound}
 use Rattle.sl_parse.specs.Told.{bare, found_tree, reads, IsDone, Faults, items_form, items_view}
 use Rattle.sl_parse.proofs.Laws.{Fine}
-use Rattle.sl_parse.proofs.Telling.{left_reads, right_reads, tree_reads, tree_rule, tree_in, then_reads, tree_done, form_done, covered_by, quiet, fault_first, fault_second, fault_as, fault_of, fault_same}
-
--- an item is an import, where its word comes, or else a declaration
-
-pub import_item : (b : Bound) (ts : List Spelled) → has (import_word ∷ []) (head_sort ts) ≡ true → found_tree b Item ts ≡ found_as inl (found_tree b Import_of ts)
-import_item b ts h =
-    tree_rule b Item refl ts
-    ∙ (ap (found_as (tree_in Item)) (left_reads b (Ref Import_of) (Ref Decl_of) ts refl h)
-    ∙ (found_as_as (tree_in Item) inl (reads b (Ref Import_of) ts)
-    ∙ (sym (found_as_as inl bare (reads b (Ref Import_of) ts)) ∙ ap (found_as inl) (sym (tree_reads b Import_of ts)))))
-
-pub decl_item : (b : Bound) (ts : List Spelled) → has (import_word ∷ []) (head_sort ts) ≡ false → found_tree b Item ts ≡ found_as inr (found_tree b Decl_of ts)
-decl_item b ts h =
-    tree_rule b Item refl ts
-    ∙ (ap (found_as (tree_in Item)) (right_reads b (Ref Import_of) (Ref Decl_of) ts h)
-    ∙ (found_as_as (tree_in Item) inr (reads b (Ref Decl_of) ts)
-    ∙ (sym (found_as_as inr bare (reads b (Ref Decl_of) ts)) ∙ ap (found_as inr) (sym (tree_reads b Decl_of ts)))))
+use Rattle.sl_parse.proofs.Telling.{tree_reads, tree_rule, tree_in, then_reads, tree_done, form_done, covered_by, quiet, fault_first, fault_second, fault_as, fault_of, fault_same}
 
 -- what stands behind the package
 abbrev behind_package : Form Name

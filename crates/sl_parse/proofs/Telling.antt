@@ -1,6 +1,6 @@
 -- What is told of a whole follows from what is told of its parts: what they find, and their faults.
 use Rattle.std.proofs.Common.{◌≡◌, ℕ, suc, ◌+◌, ◌<◌, ◌≤◌, List, [], ◌∷◌, ◌++◌, length, refl, sym, ap, ◌∙◌, subst, inl, inr, ◌⊎◌, Bool, true, false, if◌then◌else◌, true≢false, arith, length-append}
-use Rattle.std.specs.Prelude.{Option, None, Some, drop, min, IfOk}
+use Rattle.std.specs.Prelude.{Option, None, Some, min, IfOk}
 use Rattle.std.specs.declared.result.Result.{Result}
 use Rattle.std.specs.declared.result.Result.TheVariants.{Ok, Err}
 use Rattle.std.specs.Result.{IsErrAnd}
@@ -36,7 +36,7 @@ use Rattle.sl_parse_expr.proofs.Phrases.{type_goes, expr_goes, block_goes}
 use Rattle.sl_parse.specs.Names.{Name, Type_term, Expression, Block, rule_of}
 use Rattle.sl_parse.specs.Values.{T_of, tree_of, whole, total, span_in, value_of}
 use Rattle.sl_parse.specs.Grammar.{Bound, Limited, Unlimited, limit_of, sets_at, own_at, room, tree, spells_tree, spells, read}
-use Rattle.sl_parse.specs.Told.{Family, bare, found_tree, reads, IsDone, Held, Passed, IsWrongAt, IsDeepAt, Faults, Told, ToldTwo, ToldToken}
+use Rattle.sl_parse.specs.Told.{Family, bare, found_tree, reads, IsDone, Held, Passed, IsWrongAt, IsDeepAt, Faults, Told, ToldTwo}
 use Rattle.sl_parse.proofs.Laws.{Fine, law, reads_tree, rule_read, form_law, form_shape, wider}
 use Rattle.sl_parse.proofs.Spans.{Said, spanned, total_whole}
 
@@ -226,25 +226,11 @@ module _ (file : ℕ) (bytes : List ℕ) (tokens : List TokenOf) where
         (λ b left c. both_second (p b) (q b) ts x rest left (d b) c)
         (λ b y left c. ap left_of (both_done (p b) (q b) ts x rest y left (d b) c))) h
 
-  -- a token is at fault
-  pub fault_token : (at : ℕ) (sorts : List ℕ) (e : Fault) → ToldToken file bytes tokens at sorts (Err e) → Faults file bytes tokens (λ b. read_token (is sort sorts) (behind bytes tokens at)) e
-  fault_token at sorts e h = h
-
-  -- another token stands there, or none
-  pub token_wrong : (at : ℕ) (sorts : List ℕ) (e : Fault) → at ≤ length tokens → has sorts (head_sort (behind bytes tokens at)) ≡ false
-      → e ≡ fault.Broken (record { rule = rule 1; span = place file bytes (drop at tokens) }) → ToldToken file bytes tokens at sorts (Err e)
-  token_wrong at sorts e le h same =
-      subst (λ z. ToldToken file bytes tokens at sorts (Err z)) (sym same) (at, le, refl, inl (refl, λ b. token_stops sorts (behind bytes tokens at) h))
-
   -- results
 
   pub told_same : {X : Type 0} (f g : Family X) (r : Result (X × ℕ) Fault) → ((b : Bound) → g b ≡ f b) → Told file bytes tokens f r → Told file bytes tokens g r
   told_same f g (Ok (x, next)) same h = λ b. same b ∙ h b
   told_same f g (Err e) same h = fault_same f g e same h
-
-  pub told_two_same : {X Y : Type 0} (f g : Family (X × Y)) (r : Result (X × Y × ℕ) Fault) → ((b : Bound) → g b ≡ f b) → ToldTwo file bytes tokens f r → ToldTwo file bytes tokens g r
-  told_two_same f g (Ok (x, y, next)) same h = λ b. same b ∙ h b
-  told_two_same f g (Err e) same h = fault_same f g e same h
 
   -- the result of a `?`
   pub err_told : {X : Type 0} (f : Family X) (x : Fault) (r : Result (X × ℕ) Fault) → Faults file bytes tokens f x → IsErrAnd r (λ e. e ≡ x) → Told file bytes tokens f r
@@ -252,10 +238,6 @@ module _ (file : ℕ) (bytes : List ℕ) (tokens : List TokenOf) where
 
   pub err_told_two : {X Y : Type 0} (f : Family (X × Y)) (x : Fault) (r : Result (X × Y × ℕ) Fault) → Faults file bytes tokens f x → IsErrAnd r (λ e. e ≡ x) → ToldTwo file bytes tokens f r
   err_told_two f x r h e = let p = err_from_is_err_and r e in subst (ToldTwo file bytes tokens f) (sym p.1) (subst (λ z. Faults file bytes tokens f z) (sym p.2) h)
-
-  pub told_as : {X Y : Type 0} (view : X → Y) (f : Family X) (r : Result (X × ℕ) Fault) → Told file bytes tokens f r → Told file bytes tokens (λ b. found_as view (f b)) (seen_as view r)
-  told_as view f (Ok (x, next)) h = λ b. done_as view (f b) x (behind bytes tokens next) (h b)
-  told_as view f (Err e) h = fault_as view f e h
 
 -- how forms are read
 
@@ -329,18 +311,6 @@ left_view b p q view ts n h = ap (found_as view) (left_reads b p q ts n h) ∙ f
 pub right_view : {Y : Type 0} (b : Bound) (p q : Form Name) (view : Val sort T_of p ⊎ Val sort T_of q → Y) (ts : List Spelled) → has (sets_of sets_at p).first (head_sort ts) ≡ false
     → found_as view (reads b (Either p q) ts) ≡ found_as (λ y. view (inr y)) (reads b q ts)
 right_view b p q view ts h = ap (found_as view) (right_reads b p q ts h) ∙ found_as_as view inr (reads b q ts)
-
-pub room_left_view : {Y : Type 0} (b : Bound) (c : Bool) (p q : Form Name) (view : Val sort T_of p ⊎ Val sort T_of q → Y) (ts : List Spelled) → c ≡ true → has (sets_of sets_at p).first 99 ≡ false
-    → has (sets_of sets_at p).first (head_sort ts) ≡ true → found_as view (reads b (Room c p q) ts) ≡ found_as (λ x. view (inl x)) (reads b p ts)
-room_left_view b c p q view ts e n h = ap (found_as view) (room_left_reads b c p q ts e n h) ∙ found_as_as view inl (reads b p ts)
-
-pub room_right_view : {Y : Type 0} (b : Bound) (c : Bool) (p q : Form Name) (view : Val sort T_of p ⊎ Val sort T_of q → Y) (ts : List Spelled) → has (sets_of sets_at p).first (head_sort ts) ≡ false
-    → found_as view (reads b (Room c p q) ts) ≡ found_as (λ y. view (inr y)) (reads b q ts)
-room_right_view b c p q view ts h = ap (found_as view) (room_right_reads b c p q ts h) ∙ found_as_as view inr (reads b q ts)
-
-pub room_shut_view : {Y : Type 0} (b : Bound) (c : Bool) (p q : Form Name) (view : Val sort T_of p ⊎ Val sort T_of q → Y) (ts : List Spelled) → c ≡ false
-    → found_as view (reads b (Room c p q) ts) ≡ found_as (λ y. view (inr y)) (reads b q ts)
-room_shut_view b c p q view ts e = ap (found_as view) (room_shut_reads b c p q ts e) ∙ found_as_as view inr (reads b q ts)
 
 -- a name without its span, and by its rule
 
@@ -634,17 +604,11 @@ module _ (file : ℕ) (bytes : List ℕ) (tokens : List TokenOf) (at : ℕ) wher
   pub type_told : (r : Result (TypeTerm × ℕ) Fault) → Answers IsType file bytes tokens at 0 r → Told file bytes tokens (λ b. found_tree b Type_term (behind bytes tokens at)) r
   type_told r h = phrase_told Type_term IsType (λ limit x ts w. w) (λ limit x ts w. w) refl type_goes file bytes tokens at r h
 
-  pub type_lies : (x : TypeTerm) (next : ℕ) → Answers IsType file bytes tokens at 0 (Ok (x, next)) → (at < next) × (next ≤ length tokens)
-  type_lies x next h = phrase_lies Type_term IsType (λ limit x ts w. w) (λ limit x ts w. w) refl type_goes file bytes tokens at x next h
-
   pub type_bounds : (r : Result (TypeTerm × ℕ) Fault) → Answers IsType file bytes tokens at 0 r → IfOk r (λ v. (at < v.1) × (v.1 ≤ length tokens))
   type_bounds r h = phrase_bounds Type_term IsType (λ limit x ts w. w) (λ limit x ts w. w) refl type_goes file bytes tokens at r h
 
   pub expr_told : (r : Result (Expr × ℕ) Fault) → Answers AnyExpr file bytes tokens at 0 r → Told file bytes tokens (λ b. found_tree b Expression (behind bytes tokens at)) r
   expr_told r h = phrase_told Expression AnyExpr (λ limit x ts w. w) (λ limit x ts w. w) refl expr_goes file bytes tokens at r h
-
-  pub expr_lies : (x : Expr) (next : ℕ) → Answers AnyExpr file bytes tokens at 0 (Ok (x, next)) → (at < next) × (next ≤ length tokens)
-  expr_lies x next h = phrase_lies Expression AnyExpr (λ limit x ts w. w) (λ limit x ts w. w) refl expr_goes file bytes tokens at x next h
 
   pub expr_bounds : (r : Result (Expr × ℕ) Fault) → Answers AnyExpr file bytes tokens at 0 r → IfOk r (λ v. (at < v.1) × (v.1 ≤ length tokens))
   expr_bounds r h = phrase_bounds Expression AnyExpr (λ limit x ts w. w) (λ limit x ts w. w) refl expr_goes file bytes tokens at r h
@@ -655,9 +619,3 @@ module _ (file : ℕ) (bytes : List ℕ) (tokens : List TokenOf) (at : ℕ) wher
 
   pub block_told : (r : Result (List Stmt × ℕ) Fault) → Answers IsBlock file bytes tokens at 0 r → Told file bytes tokens (λ b. found_tree b Block (behind bytes tokens at)) r
   block_told r h = phrase_told Block IsBlock (λ limit x ts w. w) (λ limit x ts w. w) refl block_after file bytes tokens at r h
-
-  pub block_lies : (x : List Stmt) (next : ℕ) → Answers IsBlock file bytes tokens at 0 (Ok (x, next)) → (at < next) × (next ≤ length tokens)
-  block_lies x next h = phrase_lies Block IsBlock (λ limit x ts w. w) (λ limit x ts w. w) refl block_after file bytes tokens at x next h
-
-  pub block_bounds : (r : Result (List Stmt × ℕ) Fault) → Answers IsBlock file bytes tokens at 0 r → IfOk r (λ v. (at < v.1) × (v.1 ≤ length tokens))
-  block_bounds r h = phrase_bounds Block IsBlock (λ limit x ts w. w) (λ limit x ts w. w) refl block_after file bytes tokens at r h
