@@ -2,7 +2,7 @@
 use Rattle.std.proofs.Common.{◌≡◌, ℕ, suc, ◌-◌, ◌<◌, ◌≤◌, List, [], ◌∷◌, ◌++◌, length, refl, sym, ap, ◌∙◌, subst, inl, inr, ◌⊎◌, arith, length-append, append_assoc, append-nil, true, true≢false}
 use Rattle.std.specs.Prelude.{Some, None, drop, eqb, Bool, false, nat_lt, if◌then◌else◌}
 use Rattle.std.specs.declared.result.Result.{Result}
-use Rattle.std.specs.declared.result.Result.TheVariants.{Ok, Err}
+use Rattle.std.specs.declared.result.Result.TheVariants.{Err}
 use Rattle.std.specs.Result.{IsErrAnd}
 use Rattle.std.proofs.lemmas.Result.{err_from_is_err_and}
 use Rattle.std.proofs.lemmas.List.{append_cancel_right}
@@ -36,7 +36,7 @@ use Rattle.sl_parse.specs.Names.{Name, Path, Library, Package, File_of, T}
 use Rattle.sl_parse.specs.Values.{T_of, whole}
 use Rattle.sl_parse.specs.Grammar.{Bound, Limited, Unlimited, spells, read}
 use Rattle.sl_parse.specs.Told.{bare, found_tree, reads, IsDone, AreStopped, Held, Passed, Faults, items_form, items_view}
-use Rattle.sl_parse.specs.Answers.{AnyFile, FileWithin, IsTooDeep, IsWrong, IsInLibrary, IsBroken, Parsed}
+use Rattle.sl_parse.specs.Answers.{AnyFile, FileWithin, IsTooDeep, IsWrong, IsInLibrary, IsBroken, IsTree, Parsed}
 use Rattle.sl_parse.proofs.Laws.{Fine, reads_tree, form_law}
 use Rattle.sl_grammar.proofs.Grammar.{disjoint_sound}
 use Rattle.sl_parse_expr.proofs.Telling.{as_done, as_stopped}
@@ -259,7 +259,7 @@ module _ (file : ℕ) (bytes : List ℕ) (tokens : List Token) where
       let b : AreBetween bytes tokens 0 i used = between bytes tokens 0 i used (omega arith) le e in
       let n : length used ≡ i = omega (arith, b.1) in
       let at : broken.span ≡ place file bytes (drop (length used) tokens) = s ∙ ap (λ j. place file bytes (drop j tokens)) (sym n) in
-      (number, used, behind bytes tokens i, e, begins, h, λ j. record { rule = r j; span = at j })
+      inl (number, used, behind bytes tokens i, e, begins, h, λ j. record { rule = r j; span = at j })
 
   six_one : rule 6 ≡ rule 1 → ⊥
   six_one r = true≢false (ap (λ (x : Rule). eqb x.number 6) r)
@@ -385,13 +385,13 @@ module _ (file : ℕ) (bytes : List ℕ) (tokens : List Token) where
               (subst (IsBroken 1 used) (sym n) (inr (inr (refl, w, passed_library used more (k ∷ rest) f (g ∙ ap (λ z. more ++ z) n))))))
 
       -- no token is left
-      pub answered_whole : length tokens ≤ left → (feeds : List ℕ) → feeds ≡ feeds_from 0 bytes → Parsed file bytes tokens (Ok (whole_file feeds))
+      pub answered_whole : length tokens ≤ left → (feeds : List ℕ) → feeds ≡ feeds_from 0 bytes → IsTree bytes tokens (whole_file feeds)
       answered_whole le feeds same =
           let none : behind bytes tokens left ≡ [] = behind_end bytes tokens left le in
           let all : IsDone (λ b. found_tree b File_of All) (whole_file []) (behind bytes tokens left) = file_whole All path imports decls span (behind bytes tokens at) (behind bytes tokens next) (behind bytes tokens left) p l d s in
           by (subst (IsRead FileWithin All) (all Limited ∙ ap (Done (whole_file [])) none) (within_read All))
         where
-          by : IsRead FileWithin All (Done (whole_file []) []) → Parsed file bytes tokens (Ok (whole_file feeds))
+          by : IsRead FileWithin All (Done (whole_file []) []) → IsTree bytes tokens (whole_file feeds)
           by (used, e, front, w) =
               subst (λ z. IsFile (Some 64) (feeds_from 0 bytes) (whole_file z) All) (sym same) (subst (IsFile (Some 64) (feeds_from 0 bytes) (whole_file (feeds_from 0 bytes))) (sym (e ∙ append-nil used)) (with_feeds (feeds_from 0 bytes) w))
 

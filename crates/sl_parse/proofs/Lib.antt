@@ -54,3 +54,12 @@ pub mod LoopsRead
 pub mod FilesRead
 -- what is answered of a file
 pub mod FilesAnswered
+-- the first of what is broken in a tree: of parts, and of nothing
+pub mod FirstFault
+-- what expressions and statements break first, by their forms
+pub mod PhraseFaults
+-- what declarations break first, and their forms
+pub mod BrokenDecls
+-- which expressions are numbers, and which are `T` or `F`
+pub mod Noting
+pub mod OneAnswer

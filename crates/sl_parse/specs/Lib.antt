@@ -8,5 +8,7 @@ pub mod Values
 pub mod Grammar
 -- what a function tells of what a reader finds
 pub mod Told
+-- the rules that are tested on the tree of a file (`broken_in`), and the first that is broken (`first_of`)
+pub mod TreeRules
 -- what is answered of a file (`Parsed`)
 pub mod Answers

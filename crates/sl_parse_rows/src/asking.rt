@@ -96,6 +96,14 @@ impl Source {
         span.file == file && span.from as usize == self.bytes.len() && span.to == span.from
     }
 
+    /// Whether a span begins where a token does, and ends where one does.
+    fn covers(&self, span: Span) -> bool {
+        let tokens = self.tokens.as_slice();
+        tokens.iter().any(|token| token.span.file == span.file && token.span.from == span.from)
+            && tokens.iter().any(|token| token.span.to == span.to)
+            && span.from < span.to
+    }
+
     /// What is answered: the tree and how many tokens are left, of a file the tree alone, or the rule that is broken and the place.
     pub fn told(&self, alloc: Global, phrase: Phrase, place: Place) -> Result<String, Fail> {
         let mut page = Page::new(alloc, place.file);
@@ -110,8 +118,12 @@ impl Source {
             }
             Ok(None) => Ok(page.into_text()),
             Err(Fault::Broken(Broken { rule, span })) => {
-                if !self.has(place.file, span) {
-                    return Err("no token's span".into());
+                let known = match rule.number {
+                    3..=5 => self.covers(span),
+                    _ => self.has(place.file, span),
+                };
+                if !known {
+                    return Err("no span of tokens".into());
                 }
                 refusal(alloc, place.file, rule, span)
             }

@@ -20,6 +20,8 @@ mod replaced;
 #[cfg(test)]
 mod rows;
 #[cfg(test)]
+mod ruled;
+#[cfg(test)]
 mod swept;
 #[cfg(test)]
 mod tables;

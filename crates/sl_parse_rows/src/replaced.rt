@@ -36,7 +36,7 @@ struct Listing {
 }
 
 /// An answer without the tree.
-fn short<'a>(told: &'a str) -> &'a str {
+pub fn short<'a>(told: &'a str) -> &'a str {
     match parted(told) {
         Some((_, other)) => other,
         None => told,

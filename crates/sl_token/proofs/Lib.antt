@@ -16,3 +16,5 @@ pub mod Faults
 pub mod Broken
 -- a name is compared with the words of its length alone
 pub mod WordLengths
+-- what is answered of a file is determined
+pub mod OneAnswer
