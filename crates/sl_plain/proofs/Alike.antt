@@ -1,11 +1,11 @@
 -- When a part of a plain program and a part of its core go alike. The core's memory has what the names hold, and variables without
 -- names, which a part leaves as they were below the first that it may take.
 use Rattle.std.proofs.Common.{◌≡◌, ℕ, zero, suc, ◌≤◌, List, length, Option, Some, None, refl, sym, subst, ap, ◌∙◌, arith}
-use Rattle.sl_run.specs.Run.{Ending, TurnsSpent, Trace, Step, Went, Over, Act, pure, over, step_then, ◌>>=◌, turn, turn_at, round_then, loop_within, loop}
+use Rattle.sl_run.specs.Run.{Ending, Trace, Step, Went, Over, Act, pure, step_then, ◌>>=◌, turn, turn_at, round_then, loop_within, loop}
 use Rattle.sl_run.proofs.Alike.{BothGive}
 use Rattle.sl_core.specs.Memory.{Memory, Frame}
 use Rattle.sl_core.specs.Memory as core
-use Rattle.sl_plain.specs.Plain.{Declared}
+use Rattle.sl_plain.specs.Program.{Declared}
 use Rattle.sl_plain.specs.Means.{Variables}
 use Rattle.sl_plain.proofs.Held.{memory_of, Ready, Extends}
 use Rattle.sl_core.proofs.Slots.{SameBelow, same_below, then_below}

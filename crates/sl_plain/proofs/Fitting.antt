@@ -1,6 +1,5 @@
 -- The statements of the core of a plain program fit, and are in range.
-use Rattle.std.proofs.Common.{◌≡◌, ℕ, zero, suc, ◌+◌, ◌^◌, ◌<◌, ◌≤◌, ℤ, pos, List, [], ◌∷◌, ◌++◌, map, length, replicate, Bool, true, false, nat_lt, Some, slice_get, T, refl, ap, ◌∙◌, arith, lt-ltb}
-use Rattle.std.specs.Prelude.{int_le, ◌≤ℤ◌}
+use Rattle.std.proofs.Common.{◌≡◌, ℕ, zero, suc, ◌+◌, ◌^◌, ◌<◌, ◌≤◌, ℤ, pos, List, [], ◌∷◌, map, length, replicate, Bool, true, false, nat_lt, Some, None, is_some, if◌then◌else◌, slice_get, refl, ap, ◌∙◌, arith, lt-ltb}
 use Rattle.std.specs.List.{list_all, list_any, AllByRecursion}
 use Rattle.sl_num.specs.declared.arithmetic.Op.TheVariants.{Add}
 use Rattle.sl_num.specs.declared.comparing.Comparison.{Comparison}
@@ -15,31 +14,24 @@ use Rattle.sl_core.specs.declared.tree.CoreStmt.{CoreStmt}
 use Rattle.sl_core.specs.declared.tree.CoreStmt.TheVariants as core
 use Rattle.sl_num.specs.Comparing.{truth}
 use Rattle.sl_core.specs.Sound.{NumberOf, type_has, type_of_place, kind_of, fits, strays, expr_in_range, stmt_in_range, is_source_place}
-use Rattle.sl_plain.specs.declared.line.Kind.{Kind as PlainKind}
-use Rattle.sl_plain.specs.declared.line.Kind.TheVariants as kind
-use Rattle.sl_plain.specs.declared.line.Atom.{Atom}
-use Rattle.sl_plain.specs.declared.line.Atom.TheVariants.{Name, Number, Truth}
-use Rattle.sl_plain.specs.declared.line.Right.{Right}
-use Rattle.sl_plain.specs.declared.line.Right.TheVariants.{Just, Compare, Apply, Get}
-use Rattle.sl_plain.specs.declared.line.Condition.{Condition}
-use Rattle.sl_plain.specs.declared.line.Condition.TheVariants as condition
+use Rattle.sl_plain.specs.declared.program.Kind.{Kind as PlainKind}
+use Rattle.sl_plain.specs.declared.program.Kind.TheVariants as kind
+use Rattle.sl_plain.specs.declared.program.Atom.{Atom}
+use Rattle.sl_plain.specs.declared.program.Atom.TheVariants.{Name, Number, Truth}
+use Rattle.sl_plain.specs.declared.program.Right.{Right}
+use Rattle.sl_plain.specs.declared.program.Right.TheVariants.{Just, Compare, Apply, Get}
+use Rattle.sl_plain.specs.declared.program.Condition.{Condition}
+use Rattle.sl_plain.specs.declared.program.Condition.TheVariants as condition
 use Rattle.sl_plain.specs.Numbers.{z_type}
-use Rattle.sl_plain.specs.Lines.{IsAtom, IsRight, IsCondition, IsNumber}
-use Rattle.sl_plain.specs.Plain.{Declared, declaration, kind_of_atom, has_kind, are_numbers, right_fits, condition_fits}
+use Rattle.sl_plain.specs.Names.{is_number}
+use Rattle.sl_plain.specs.Program.{IsAtom, IsRight, IsCondition, Declared, declaration, kind_of_atom, has_kind, are_numbers, right_fits, condition_fits}
+use Rattle.sl_plain.specs.Reach.{right_lines}
 use Rattle.sl_plain.specs.Lowered.{path_of, atom_expr, condition_expr, store_right, unnamed, leave_unless, raise, for_round, z}
-use Rattle.sl_plain.proofs.Names.{place, stands, position_is, all_append}
+use Rattle.sl_plain.proofs.Names.{both, place, stands, position_is, all_append}
 use Rattle.sl_plain.proofs.Held.{Within}
-use Rattle.sl_plain.proofs.Values.{both, entry_of, kind_is}
+use Rattle.sl_plain.proofs.Values.{entry_of, kind_is}
 use Rattle.sl_plain.proofs.Keeping.{IsKept}
 use Rattle.sl_plain.proofs.CoreLayers.{kind_of_number, kind_of_text, kind_of_path, kind_of_apply, kind_of_compare, store_fits, if_fits, loop_fits, break_fits, get_fits, put_fits, halt_fits, number_range, text_range, path_range, apply_range, compare_range, store_range, if_range, loop_range, break_range, get_range, put_range, halt_range, store_strays, if_strays, loop_strays, get_strays, put_strays, halt_strays}
-
--- a test that holds is true
-holds_true : (b : Bool) → T b → b ≡ true
-holds_true true h = refl
-holds_true false h = absurd h
-
-pub le_true : (a b : ℤ) → a ≤ℤ b → int_le a b ≡ true
-le_true a b h = holds_true (int_le a b) h.le
 
 -- what holds of all is so where it is mapped
 pub all_true : {A : Type 0} (f : A → Bool) (xs : List A) → AllByRecursion (λ x. f x ≡ true) xs → list_all (λ so. so) (map f xs) ≡ true
@@ -63,8 +55,8 @@ all_bytes (byte ∷ bytes) all = rw (lt-ltb byte 256 (let le = all.0 in omega ar
 
 module _ (target : Core) (typed : slice_get target.types 0 ≡ Some (Int z_type)) (names : List Declared) (rooms : ℕ) (function : CoreFun) (vars : function.vars ≡ replicate (length names + rooms) z) where
   -- a number of 64 bits is one of the type
-  pub type_has_number : (n : ℤ) → IsNumber n → type_has target z n ≡ true
-  type_has_number n is = rw typed (rw (le_true z_type.lo n is.0, le_true n z_type.hi is.1) refl)
+  pub type_has_number : (n : ℤ) → is_number n ≡ true → type_has target z n ≡ true
+  type_has_number n is = rw typed (ap (λ so. is_some (if so then Some (Int z_type) else None)) is)
 
   -- each variable has the type of numbers
   variable_is : (number : ℕ) → number < length names + rooms → slice_get function.vars number ≡ Some z
@@ -129,15 +121,15 @@ module _ (target : Core) (typed : slice_get target.types 0 ≡ Some (Int z_type)
     compare_kind : (by : Comparison) (a b : Atom) → are_numbers scope a b ≡ true → IsAtom a → IsAtom b → kind_of target function (expr.Compare by (atom_expr names a) (atom_expr names b) z) ≡ Some (NumberOf z)
     compare_kind by a b h is_a is_b = let p = two a b h is_a is_b in kind_of_compare target function by (atom_expr names a) (atom_expr names b) z ∙ simp (p.0, p.1, typed)
 
-    pub right_fit : (line : ℕ) (path : CorePath) (type : PlainKind) (right : Right) → type_of_place function path ≡ Some z → right_fits scope type right ≡ true → IsRight right → fits target function (store_right names line path right) ≡ true
-    right_fit line path type (Just atom) at h is = store_fit path (atom_expr names atom) at (atom_kind atom type (kind_is type (kind_of_atom scope atom) h) is)
-    right_fit line path kind.Truth (Compare by a b) at h is = store_fit path (expr.Compare by (atom_expr names a) (atom_expr names b) z) at (compare_kind by a b h is.0 is.1)
-    right_fit line path kind.Number (Compare by a b) at h is = grind arith
-    right_fit line path kind.Truth (Apply op a b) at h is = grind arith
-    right_fit line path kind.Number (Apply op a b) at h is =
+    pub right_fit : (path : CorePath) (type : PlainKind) (right : Right) → type_of_place function path ≡ Some z → right_fits scope type right ≡ true → IsRight right → fits target function (store_right names path right) ≡ true
+    right_fit path type (Just atom) at h is = store_fit path (atom_expr names atom) at (atom_kind atom type (kind_is type (kind_of_atom scope atom) h) is)
+    right_fit path kind.Truth (Compare by a b) at h is = store_fit path (expr.Compare by (atom_expr names a) (atom_expr names b) z) at (compare_kind by a b h is.0 is.1)
+    right_fit path kind.Number (Compare by a b) at h is = grind arith
+    right_fit path kind.Truth (Apply op a b line) at h is = grind arith
+    right_fit path kind.Number (Apply op a b line) at h is =
         let p = two a b h is.1 is.2 in
         store_fit path (expr.Apply op (atom_expr names a) (atom_expr names b) z 0 line) at (kind_of_apply target function op (atom_expr names a) (atom_expr names b) z 0 line ∙ simp (p.0, p.1))
-    right_fit line path type Get at h is = get_fits target function path ∙ rw at (rw typed refl)
+    right_fit path type Get at h is = get_fits target function path ∙ rw at (rw typed refl)
 
     pub condition_kind : (test : Condition) → condition_fits scope test ≡ true → IsCondition test → kind_of target function (condition_expr names test) ≡ Some (NumberOf z)
     condition_kind (condition.Just atom) h is = atom_kind atom kind.Truth (kind_is kind.Truth (kind_of_atom scope atom) h) is
@@ -146,7 +138,7 @@ module _ (target : Core) (typed : slice_get target.types 0 ≡ Some (Int z_type)
   -- all statements fit
   pub fits_kept : (limit : ℕ) → IsKept names rooms limit (λ s. fits target function s ≡ true)
   fits_kept limit = record {
-    store = λ scope within name entry h line less right fit is. right_fit scope within line (path_of names name) entry.type right (place_is name entry h) fit is;
+    store = λ scope within name entry h right fit is lines. right_fit scope within (path_of names name) entry.type right (place_is name entry h) fit is;
     print = λ scope within atom type h is. put_fits target function (atom_expr names atom) ∙ rw (atom_kind scope within atom type h is) refl;
     text = λ bytes are. put_fits target function (expr.TextOf bytes) ∙ rw (kind_of_text target function bytes) refl;
     choice = λ scope within test fit is chosen other a b.
@@ -173,12 +165,12 @@ module _ (names : List Declared) where
   store_in_range : (path : CorePath) (e : CoreExpr) → expr_in_range e ≡ true → stmt_in_range (core.Store path e) ≡ true
   store_in_range path e is = store_range path e ∙ is
 
-  right_range : (line : ℕ) → line < 2 ^ 32 → (path : CorePath) (right : Right) → stmt_in_range (store_right names line path right) ≡ true
-  right_range line less path (Just atom) = store_in_range path (atom_expr names atom) (atom_range atom)
-  right_range line less path (Compare by a b) = store_in_range path (expr.Compare by (atom_expr names a) (atom_expr names b) z) (compare_range by (atom_expr names a) (atom_expr names b) z ∙ rw (atom_range a, atom_range b) refl)
-  right_range line less path (Apply op a b) =
-      store_in_range path (expr.Apply op (atom_expr names a) (atom_expr names b) z 0 line) (apply_range op (atom_expr names a) (atom_expr names b) z 0 line ∙ rw (atom_range a, atom_range b, place_range line less) refl)
-  right_range line less path Get = get_range path
+  right_range : (path : CorePath) (right : Right) → AllByRecursion (λ line. line < 2 ^ 32) (right_lines right) → stmt_in_range (store_right names path right) ≡ true
+  right_range path (Just atom) lines = store_in_range path (atom_expr names atom) (atom_range atom)
+  right_range path (Compare by a b) lines = store_in_range path (expr.Compare by (atom_expr names a) (atom_expr names b) z) (compare_range by (atom_expr names a) (atom_expr names b) z ∙ rw (atom_range a, atom_range b) refl)
+  right_range path (Apply op a b line) lines =
+      store_in_range path (expr.Apply op (atom_expr names a) (atom_expr names b) z 0 line) (apply_range op (atom_expr names a) (atom_expr names b) z 0 line ∙ rw (atom_range a, atom_range b, place_range line lines.0) refl)
+  right_range path Get lines = get_range path
 
   leave_range : (e : CoreExpr) → expr_in_range e ≡ true → stmt_in_range (leave_unless e) ≡ true
   leave_range e is = if_range e [] (core.Break ∷ []) ∙ rw (is, break_range) refl
@@ -200,7 +192,7 @@ module _ (names : List Declared) where
   -- all statements are in range
   pub range_kept : (rooms : ℕ) → IsKept names rooms (2 ^ 32) (λ s. stmt_in_range s ≡ true)
   range_kept rooms = record {
-    store = λ scope within name entry h line less right fit is. right_range line less (path_of names name) right;
+    store = λ scope within name entry h right fit is lines. right_range (path_of names name) right lines;
     print = λ scope within atom type h is. put_range (atom_expr names atom) ∙ atom_range atom;
     text = λ bytes are. put_range (expr.TextOf bytes) ∙ (text_range bytes ∙ all_bytes bytes are);
     choice = λ scope within test fit is chosen other a b. if_range (condition_expr names test) chosen other ∙ rw (condition_range test, all_true stmt_in_range chosen a, all_true stmt_in_range other b) refl;
@@ -213,15 +205,15 @@ module _ (names : List Declared) where
   }
 
   -- a `Break` stands in loops
-  right_strays : (line : ℕ) (path : CorePath) (right : Right) → strays (store_right names line path right) ≡ false
-  right_strays line path (Just atom) = store_strays path (atom_expr names atom)
-  right_strays line path (Compare by a b) = store_strays path (expr.Compare by (atom_expr names a) (atom_expr names b) z)
-  right_strays line path (Apply op a b) = store_strays path (expr.Apply op (atom_expr names a) (atom_expr names b) z 0 line)
-  right_strays line path Get = get_strays path
+  right_strays : (path : CorePath) (right : Right) → strays (store_right names path right) ≡ false
+  right_strays path (Just atom) = store_strays path (atom_expr names atom)
+  right_strays path (Compare by a b) = store_strays path (expr.Compare by (atom_expr names a) (atom_expr names b) z)
+  right_strays path (Apply op a b line) = store_strays path (expr.Apply op (atom_expr names a) (atom_expr names b) z 0 line)
+  right_strays path Get = get_strays path
 
   pub strays_kept : (rooms limit : ℕ) → IsKept names rooms limit (λ s. strays s ≡ false)
   strays_kept rooms limit = record {
-    store = λ scope within name entry h line less right fit is. right_strays line (path_of names name) right;
+    store = λ scope within name entry h right fit is lines. right_strays (path_of names name) right;
     print = λ scope within atom type h is. put_strays (atom_expr names atom);
     text = λ bytes are. put_strays (expr.TextOf bytes);
     choice = λ scope within test fit is chosen other a b. if_strays (condition_expr names test) chosen other ∙ rw (none_true strays chosen a, none_true strays other b) refl;

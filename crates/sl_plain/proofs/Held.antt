@@ -8,12 +8,12 @@ use Rattle.sl_core.specs.Memory as core
 use Rattle.sl_num.specs.Comparing.{truth}
 use Rattle.sl_core.specs.Meaning.{with_some, read}
 use Rattle.sl_core.specs.Meaning as core_meaning
-use Rattle.sl_plain.specs.declared.line.Kind.{Kind}
-use Rattle.sl_plain.specs.declared.line.Kind.TheVariants as kind
-use Rattle.sl_plain.specs.Plain.{Declared, declaration}
+use Rattle.sl_plain.specs.declared.program.Kind.{Kind}
+use Rattle.sl_plain.specs.declared.program.Kind.TheVariants as kind
+use Rattle.sl_plain.specs.Program.{Declared, declaration, name_of}
 use Rattle.sl_plain.specs.Means.{Value, Of, Is, Variables, with_held}
 use Rattle.sl_plain.specs.Lowered.{path_of, unnamed}
-use Rattle.sl_plain.proofs.Names.{declares, name_of, place, either, same_bytes, bytes_eq_sym, position_is, mapped_at, set_at, stands}
+use Rattle.sl_plain.proofs.Names.{declares, place, either, same_bytes, bytes_eq_sym, position_is, mapped_at, set_at, stands}
 use Rattle.sl_core.proofs.Slots.{some_same, get_left, get_right, set_left, set_right}
 
 -- a value in the core

@@ -3,20 +3,20 @@ use Rattle.std.proofs.Common.{◌≡◌, ℕ, suc, ◌<◌, ◌≤◌, List, ◌
 use Rattle.std.specs.List.{AllByRecursion}
 use Rattle.sl_core.specs.declared.tree.CoreStmt.{CoreStmt}
 use Rattle.sl_core.specs.declared.tree.CoreStmt.TheVariants as core
-use Rattle.sl_plain.specs.declared.line.Kind.{Kind}
-use Rattle.sl_plain.specs.declared.line.Kind.TheVariants as kind
-use Rattle.sl_plain.specs.declared.line.Atom.{Atom}
-use Rattle.sl_plain.specs.declared.line.Right.{Right}
-use Rattle.sl_plain.specs.declared.line.Condition.{Condition}
-use Rattle.sl_plain.specs.Lines.{IsAtom, IsRight, IsCondition}
-use Rattle.sl_plain.specs.Plain.{Declared, declaration, kind_of_atom, right_fits, condition_fits}
+use Rattle.sl_plain.specs.declared.program.Kind.{Kind}
+use Rattle.sl_plain.specs.declared.program.Kind.TheVariants as kind
+use Rattle.sl_plain.specs.declared.program.Atom.{Atom}
+use Rattle.sl_plain.specs.declared.program.Right.{Right}
+use Rattle.sl_plain.specs.declared.program.Condition.{Condition}
+use Rattle.sl_plain.specs.Program.{IsAtom, IsRight, IsCondition, Declared, declaration, kind_of_atom, right_fits, condition_fits}
+use Rattle.sl_plain.specs.Reach.{right_lines}
 use Rattle.sl_plain.specs.Lowered.{path_of, atom_expr, condition_expr, store_right, unnamed, leave_unless, for_round, put_text}
 use Rattle.sl_plain.proofs.Held.{Within}
 
 -- a condition that holds of each of the forms that statements are lowered to, on lines before the limit and with fewer variables
 -- without names than there are
 pub record IsKept (names : List Declared) (rooms limit : ℕ) (P : CoreStmt → Type 0) : Type 0 where
-  pub store : (scope : List Declared) → Within names scope → (name : List ℕ) (entry : Declared) → declaration names name ≡ Some entry → (line : ℕ) → line < limit → (right : Right) → right_fits scope entry.type right ≡ true → IsRight right → P (store_right names line (path_of names name) right)
+  pub store : (scope : List Declared) → Within names scope → (name : List ℕ) (entry : Declared) → declaration names name ≡ Some entry → (right : Right) → right_fits scope entry.type right ≡ true → IsRight right → AllByRecursion (λ line. line < limit) (right_lines right) → P (store_right names (path_of names name) right)
   pub print : (scope : List Declared) → Within names scope → (atom : Atom) (type : Kind) → kind_of_atom scope atom ≡ Some type → IsAtom atom → P (core.Put (atom_expr names atom))
   pub text : (bytes : List ℕ) → AllByRecursion (λ byte. byte ≤ 255) bytes → P (put_text bytes)
   pub choice : (scope : List Declared) → Within names scope → (test : Condition) → condition_fits scope test ≡ true → IsCondition test → (chosen other : List CoreStmt) → AllByRecursion P chosen → AllByRecursion P other → P (core.If (condition_expr names test) chosen other)

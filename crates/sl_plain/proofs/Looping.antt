@@ -1,5 +1,5 @@
 -- The loops of a plain program go as those of its core do.
-use Rattle.std.proofs.Common.{◌≡◌, inl, inr, ℕ, zero, suc, ◌+◌, ◌<◌, ◌≤◌, ℤ, pos, List, [], ◌∷◌, ◌++◌, map, length, Bool, true, false, Option, Some, None, bytes_eq, slice_get, slice_set, refl, sym, subst, subst₂, ap, ap₂, ◌∙◌, arith}
+use Rattle.std.proofs.Common.{◌≡◌, ℕ, zero, suc, ◌<◌, ℤ, pos, List, [], ◌∷◌, ◌++◌, map, length, Bool, true, false, Option, Some, None, bytes_eq, slice_get, slice_set, refl, sym, subst, subst₂, ap, ◌∙◌, arith}
 use Rattle.std.specs.Prelude.{◌+ℤ◌, Result, Ok, Err}
 use Rattle.std.specs.List.{IsDistinct}
 use Rattle.sl_num.specs.declared.arithmetic.Halt.{Halt}
@@ -27,18 +27,17 @@ use Rattle.sl_core.specs.Meaning.{Callees, Flow, evaluate, number_or_halt, halt_
 use Rattle.sl_core.specs.Meaning as lowest
 use Rattle.sl_core.proofs.Equations.{path_runs, number_runs, compare_runs, apply_runs, store_runs, if_runs, loop_runs, break_runs}
 use Rattle.sl_core.proofs.Steady.{in_order_agrees}
-use Rattle.sl_plain.specs.declared.line.Kind.TheVariants as kind
-use Rattle.sl_plain.specs.declared.line.Atom.{Atom}
-use Rattle.sl_plain.specs.declared.line.Condition.{Condition}
+use Rattle.sl_plain.specs.declared.program.Kind.TheVariants as kind
+use Rattle.sl_plain.specs.declared.program.Atom.{Atom}
+use Rattle.sl_plain.specs.declared.program.Condition.{Condition}
 use Rattle.sl_plain.specs.Numbers.{z_type}
-use Rattle.sl_plain.specs.Plain.{Declared, declaration, kind_of_atom, condition_fits, counted}
-use Rattle.sl_plain.specs.Means.{Value, Of, Variables, value_of, with_held, with_number, with_number_of, result_or_halt, condition_value, store, round_of, while_holds, for_numbers, count_until}
+use Rattle.sl_plain.specs.Program.{Declared, declaration, name_of, kind_of_atom, condition_fits, counted}
+use Rattle.sl_plain.specs.Means.{Of, Variables, value_of, with_held, with_number, with_number_of, result_or_halt, condition_value, store, round_of, while_holds, for_numbers, count_until}
 use Rattle.sl_plain.specs.Lowered.{path_of, atom_expr, condition_expr, unnamed, leave_unless, raise, for_round, for_of, z}
-use Rattle.sl_plain.proofs.Names.{name_of}
 use Rattle.sl_core.proofs.Slots.{SameBelow, same_below, set_below, then_below, get_set_same, get_set_other}
 use Rattle.sl_plain.proofs.Held.{memory_of, Ready, Within, Extends, store_is, read_unnamed, store_unnamed, ready_declared}
 use Rattle.sl_plain.proofs.Values.{atom_holds, with_number_is, atom_runs, condition_is, is_true_truth, sum_is, some_left, none_left}
-use Rattle.sl_plain.proofs.Alike.{WentOn, Alike, GoAlike, went_both, over_both, alike_from, go_same, bind_alike, loop_alike}
+use Rattle.sl_plain.proofs.Alike.{Alike, GoAlike, went_both, alike_from, go_same, bind_alike, loop_alike}
 use Rattle.sl_plain.proofs.Parts.{OnNext, do_all, Goes, alone, do_all-append}
 
 module _ (target : Core) (typed : slice_get target.types 0 ≡ Some (Int z_type)) (names : List Declared) (distinct : IsDistinct bytes_eq (map name_of names)) (below : List Frame) (rooms : ℕ) (call : Callees) where

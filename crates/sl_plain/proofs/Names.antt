@@ -1,19 +1,15 @@
 -- Names among declarations: where they stand, and what is kept under them.
-use Rattle.std.proofs.Common.{◌≡◌, ℕ, zero, suc, ◌<◌, List, [], ◌∷◌, ◌++◌, length, map, slice_get, slice_set, Bool, true, false, Some, None, option_map, unwrap_or, nat_lt, position, bytes_eq, refl, sym, subst, ap, ap₂, ◌∙◌, one-add, arith, lt-ltb, All}
-use Rattle.std.specs.List.{position_or_len, AllByRecursion, IsDistinct}
+use Rattle.std.proofs.Common.{◌≡◌, ℕ, zero, suc, ◌<◌, List, [], ◌∷◌, ◌++◌, length, map, slice_get, slice_set, Bool, true, false, ◌&&◌, Some, None, option_map, unwrap_or, nat_lt, position, bytes_eq, refl, sym, subst, ap, ap₂, ◌∙◌, one-add, arith, lt-ltb, All}
+use Rattle.std.specs.List.{list_all, position_or_len, AllByRecursion, IsDistinct}
 use Rattle.std.proofs.lemmas.Slice.Eq.{bytes_eq-Decides}
 use Rattle.std.proofs.lemmas.Option.{slice_get-map}
 use Rattle.std.proofs.lemmas.Map.Keys.{IsDistinct-head, IsDistinct-tail}
 use Rattle.sl_core.proofs.Slots.{some_same}
-use Rattle.sl_plain.specs.Plain.{Declared, declaration}
+use Rattle.sl_plain.specs.Program.{Declared, declaration, name_of}
 
 -- whether an entry declares a name
 abbrev pub declares : List ℕ → Declared → Bool
 declares name entry = bytes_eq entry.name name
-
--- the name of an entry
-abbrev pub name_of : Declared → List ℕ
-name_of entry = entry.name
 
 -- the place of a name
 abbrev pub place : List Declared → List ℕ → ℕ
@@ -31,6 +27,14 @@ bytes_same a = (bytes_eq-Decides a a).1 refl
 pub either : (b : Bool) {P : Type 0} → (b ≡ true → P) → (b ≡ false → P) → P
 either true h k = h refl
 either false h k = k refl
+
+-- both tests hold
+pub both : (a b : Bool) → a && b ≡ true → (a ≡ true) × (b ≡ true)
+both true b h = (refl, h)
+both false b h = absurd (false_not_true h)
+  where
+    false_not_true : false ≡ true → ⊥
+    false_not_true h = grind arith
 
 pub bytes_eq_sym : (a b : List ℕ) → bytes_eq a b ≡ bytes_eq b a
 bytes_eq_sym a b = either (bytes_eq a b)
@@ -141,3 +145,8 @@ to_all P (x ∷ xs) all (suc k) d less = to_all P xs all.1 k d (omega (arith, le
 pub all_so : {X : Type 0} (P Q : X → Type 0) → ((x : X) → P x → Q x) → (xs : List X) → AllByRecursion P xs → AllByRecursion Q xs
 all_so P Q h [] all = tt
 all_so P Q h (x ∷ xs) all = (h x all.0, all_so P Q h xs all.1)
+
+-- what a test of all tells of each
+pub all_pass : {X : Type 0} (test : X → Bool) (xs : List X) → list_all test xs ≡ true → AllByRecursion (λ x. test x ≡ true) xs
+all_pass test [] h = tt
+all_pass test (x ∷ xs) h = let tests = both (test x) (list_all test xs) h in (tests.0, all_pass test xs tests.1)

@@ -6,10 +6,10 @@ use Rattle.std.specs.Cmp.Lexicographic.{slice_cmp, nat_list_cmp_total, nat_list_
 use Rattle.std.specs.BTreeMap.{BTreeMap, UpdatesBy, get_by}
 use Rattle.std.specs.Map.{lookup, IsKeyTest, AreApart, KeepsOthers}
 use Rattle.std.specs.Prelude.{Vec}
-use Rattle.sl_plain.specs.declared.line.Kind.{Kind}
+use Rattle.sl_plain.specs.declared.program.Kind.{Kind}
 use Rattle.sl_plain.specs.declared.lowering.numbers.Variable.{Variable}
 use Rattle.sl_plain.specs.declared.lowering.numbers.Variables.{Variables}
-use Rattle.sl_plain.specs.Plain.{Declared, declaration}
+use Rattle.sl_plain.specs.Program.{Declared, declaration}
 use Rattle.sl_plain.specs.Numbering.{variable_named, numbered_from, AreNumbered}
 use Rattle.sl_plain.proofs.Names.{declares, place, either, same_bytes, position_is}
 

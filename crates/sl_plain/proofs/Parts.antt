@@ -1,5 +1,5 @@
 -- The parts of a plain program go as their core does: values that are stored, what is printed, choices and halts, one after another.
-use Rattle.std.proofs.Common.{◌≡◌, inl, inr, ℕ, List, [], ◌∷◌, ◌++◌, map, length, Bool, true, false, Option, Some, bytes_eq, codes, slice_get, refl, sym, subst, subst₂, ap, ◌∙◌}
+use Rattle.std.proofs.Common.{◌≡◌, inl, inr, ℕ, List, [], ◌∷◌, ◌++◌, map, Bool, true, false, Option, Some, bytes_eq, codes, slice_get, refl, sym, subst, subst₂, ap, ◌∙◌}
 use Rattle.std.specs.List.{IsDistinct}
 use Rattle.sl_run.specs.Run.{Puts, Trace, Step, Went, Over, Act, pure, over, step_then, ◌>>=◌, ◌>>◌, choose, put_all}
 use Rattle.sl_run.specs.Run as run
@@ -14,16 +14,15 @@ use Rattle.sl_run.specs.Statements.{Next, Broke, Returned, then_on, in_order}
 use Rattle.sl_core.specs.Meaning.{Callees, Flow, is_true}
 use Rattle.sl_core.specs.Meaning as lowest
 use Rattle.sl_core.proofs.Equations.{text_runs, if_runs, put_runs, halt_runs}
-use Rattle.sl_plain.specs.declared.line.Kind.{Kind}
-use Rattle.sl_plain.specs.declared.line.Kind.TheVariants as kind
-use Rattle.sl_plain.specs.declared.line.Atom.{Atom}
-use Rattle.sl_plain.specs.declared.line.Right.{Right}
-use Rattle.sl_plain.specs.declared.line.Condition.{Condition}
+use Rattle.sl_plain.specs.declared.program.Kind.{Kind}
+use Rattle.sl_plain.specs.declared.program.Kind.TheVariants as kind
+use Rattle.sl_plain.specs.declared.program.Atom.{Atom}
+use Rattle.sl_plain.specs.declared.program.Right.{Right}
+use Rattle.sl_plain.specs.declared.program.Condition.{Condition}
 use Rattle.sl_plain.specs.Numbers.{z_type}
-use Rattle.sl_plain.specs.Plain.{Declared, declaration, kind_of_atom, right_fits, condition_fits}
+use Rattle.sl_plain.specs.Program.{Declared, declaration, name_of, kind_of_atom, right_fits, condition_fits}
 use Rattle.sl_plain.specs.Means.{Value, Of, Is, Variables, with_held, with_value, right_value, condition_value, printed_value, printed_truth, print_line, store}
 use Rattle.sl_plain.specs.Lowered.{path_of, atom_expr, store_right, condition_expr, put_text, print_of}
-use Rattle.sl_plain.proofs.Names.{name_of}
 use Rattle.sl_core.proofs.Slots.{same_below}
 use Rattle.sl_plain.proofs.Held.{memory_of, Holds, Ready, Within, store_is}
 use Rattle.sl_plain.proofs.Values.{Gives, atom_holds, with_value_is, atom_runs, condition_is, right_is, is_true_truth}
@@ -95,14 +94,14 @@ module _ (target : Core) (typed : slice_get target.types 0 ≡ Some (Int z_type)
         ]
 
     -- a declaration, or an assignment
-    pub stored_goes : (scope' : List Declared) (line : ℕ) (name : List ℕ) (entry : Declared) (right : Right) → declaration names name ≡ Some entry → right_fits scope entry.type right ≡ true
+    pub stored_goes : (scope' : List Declared) (name : List ℕ) (entry : Declared) (right : Right) → declaration names name ≡ Some entry → right_fits scope entry.type right ≡ true
         → ((value : Value) (variables : Variables) → Ready scope variables → Holds entry.type (Some value) → Ready scope' (with_held name value variables))
-        → Goes scope scope' taken (right_value line right >>= store name) (store_right names line (path_of names name) right ∷ [])
-    stored_goes scope' line name entry right h fits next t variables extra ready long =
-        let is = right_is target typed names below extra scope within variables ready t line entry.type right fits in
-        let k = stored_step scope' name entry entry.type h next variables extra ready (right_value line right t variables) is.0 is.1
-        in subst (λ y. Alike names below rooms OnNext scope' taken extra (step_then (right_value line right t variables) (store name)) y)
-        (sym (alone (store_right names line (path_of names name) right) t (memory_of names below extra variables) ∙ is.2 call (path_of names name))) k
+        → Goes scope scope' taken (right_value right >>= store name) (store_right names (path_of names name) right ∷ [])
+    stored_goes scope' name entry right h fits next t variables extra ready long =
+        let is = right_is target typed names below extra scope within variables ready t entry.type right fits in
+        let k = stored_step scope' name entry entry.type h next variables extra ready (right_value right t variables) is.0 is.1
+        in subst (λ y. Alike names below rooms OnNext scope' taken extra (step_then (right_value right t variables) (store name)) y)
+        (sym (alone (store_right names (path_of names name) right) t (memory_of names below extra variables) ∙ is.2 call (path_of names name))) k
 
     -- a text that is printed
     pub text_goes : (bytes : List ℕ) → Goes scope scope taken (print_line bytes) (put_text (bytes ++ 10 ∷ []) ∷ [])

@@ -1,5 +1,5 @@
 -- What a run of a plain program leaves of the input is what stands behind as many bytes as it asked for.
-use Rattle.std.proofs.Common.{◌≡◌, ℕ, zero, suc, ◌+◌, ℤ, pos, List, [], ◌∷◌, ◌++◌, length, drop, Bool, true, false, Option, Some, None, refl, sym, ap, ap₂, ◌∙◌, subst, map, append_assoc, append-nil, length-append}
+use Rattle.std.proofs.Common.{◌≡◌, ℕ, zero, suc, ◌+◌, ℤ, pos, List, [], ◌∷◌, ◌++◌, length, drop, Bool, true, false, Option, Some, None, refl, sym, ap, ◌∙◌, subst, map, append_assoc, append-nil, length-append}
 use Rattle.std.specs.Prelude.{Result, Ok, Err}
 use Rattle.std.proofs.lemmas.List.{length-map, drop-drop}
 use Rattle.sl_run.specs.Run.{Ending, Event, Puts, Asks, Trace, Step, Went, Over, Act, pure, over, step_then, ◌>>=◌, ◌>>◌, choose, put_all, first_of, rest_of, get, turn_at, turn, round_then, loop_within, loop, start}
@@ -12,16 +12,16 @@ use Rattle.sl_num.specs.declared.comparing.Comparison.{Comparison}
 use Rattle.sl_num.specs.Arithmetic.{applied}
 use Rattle.sl_num.specs.Comparing.{holds}
 use Rattle.sl_run.specs.Statements.{gotten}
-use Rattle.sl_plain.specs.declared.line.Atom.{Atom}
-use Rattle.sl_plain.specs.declared.line.Right.{Right}
-use Rattle.sl_plain.specs.declared.line.Right.TheVariants.{Just, Compare, Apply, Get}
-use Rattle.sl_plain.specs.declared.line.Condition.{Condition}
-use Rattle.sl_plain.specs.declared.line.Condition.TheVariants as condition
-use Rattle.sl_plain.specs.declared.tree.Stmt.{Stmt, Stmt-F, ind-Stmt, map-Stmt, roll-Stmt}
-use Rattle.sl_plain.specs.declared.tree.Stmt.TheOpen as stmt
-use Rattle.sl_plain.specs.declared.tree.Plain.{Plain}
+use Rattle.sl_plain.specs.declared.program.Atom.{Atom}
+use Rattle.sl_plain.specs.declared.program.Right.{Right}
+use Rattle.sl_plain.specs.declared.program.Right.TheVariants.{Just, Compare, Apply, Get}
+use Rattle.sl_plain.specs.declared.program.Condition.{Condition}
+use Rattle.sl_plain.specs.declared.program.Condition.TheVariants as condition
+use Rattle.sl_plain.specs.declared.program.Stmt.{Stmt, Stmt-F, ind-Stmt, map-Stmt, roll-Stmt}
+use Rattle.sl_plain.specs.declared.program.Stmt.TheOpen as stmt
+use Rattle.sl_plain.specs.declared.program.Plain.{Plain}
 use Rattle.sl_plain.specs.Numbers.{z_type}
-use Rattle.sl_plain.specs.Means.{Value, Of, Is, Variables, value_of, with_value_of, with_value, with_number_of, with_number, with_truth_of, with_truth, compare, result_or_halt, right_value, condition_value, printed_value, print_line, store, round_of, while_holds, for_numbers, count_until, assert_halt, halt_halt, Lined, in_order, in_else, count_of, meaning_step, meaning, first_body_line, program, none_held, plain_run}
+use Rattle.sl_plain.specs.Means.{Value, Of, Is, Variables, value_of, with_value_of, with_value, with_number_of, with_number, with_truth_of, with_truth, compare, result_or_halt, right_value, condition_value, printed_value, print_line, store, round_of, while_holds, for_numbers, count_until, assert_halt, halt_halt, in_order, meaning_step, meaning, program, none_held, plain_run}
 use Rattle.sl_plain.proofs.Layers.{meaning_layer}
 
 -- a run went on from one trace to another: there are some more events, and what is left of the input is behind the bytes that they
@@ -132,13 +132,13 @@ result_takes : (line : ℕ) (result : Result ℤ Halt) → TakesAsked (result_or
 result_takes line (Ok number) t s = from_same t t refl refl
 result_takes line (Err halt) t s = from_same t t refl refl
 
-right_takes : (line : ℕ) (right : Right) → TakesAsked (right_value line right)
-right_takes line (Just atom) = value_takes atom pure pure_takes
-right_takes line (Compare by a b) = bind_takes (compare by a b) (λ truth. pure (Is truth)) (compare_takes by a b) (λ truth. pure_takes (Is truth))
-right_takes line (Apply op a b) =
+right_takes : (right : Right) → TakesAsked (right_value right)
+right_takes (Just atom) = value_takes atom pure pure_takes
+right_takes (Compare by a b) = bind_takes (compare by a b) (λ truth. pure (Is truth)) (compare_takes by a b) (λ truth. pure_takes (Is truth))
+right_takes (Apply op a b line) =
     number_takes a (λ x. with_number b (λ y. result_or_halt line (applied z_type op x y)))
     (λ x. number_takes b (λ y. result_or_halt line (applied z_type op x y)) (λ y. result_takes line (applied z_type op x y)))
-right_takes line Get = bind_takes get (λ byte. pure (Of (gotten byte))) get_takes (λ byte. pure_takes (Of (gotten byte)))
+right_takes Get = bind_takes get (λ byte. pure (Of (gotten byte))) get_takes (λ byte. pure_takes (Of (gotten byte)))
 
 condition_takes : (test : Condition) → TakesAsked (condition_value test)
 condition_takes (condition.Just atom) = truth_takes atom pure pure_takes
@@ -147,8 +147,8 @@ condition_takes (condition.Compare by a b) = compare_takes by a b
 store_takes : (name : List ℕ) (value : Value) → TakesAsked (store name value)
 store_takes name value t s = from_same t t refl refl
 
-stored_takes : (line : ℕ) (name : List ℕ) (right : Right) → TakesAsked (right_value line right >>= store name)
-stored_takes line name right = bind_takes (right_value line right) (store name) (right_takes line right) (store_takes name)
+stored_takes : (name : List ℕ) (right : Right) → TakesAsked (right_value right >>= store name)
+stored_takes name right = bind_takes (right_value right) (store name) (right_takes right) (store_takes name)
 
 -- what comes after an asking
 asked_takes : (body : Act Variables (Unit {0})) → TakesAsked body → (so : Bool) → TakesAsked (round_of body so)
@@ -174,9 +174,9 @@ numbers_take line name body h (suc count) from = more (numbers_take line name bo
         (λ _. result_takes line (applied z_type Add from (pos 1))))
         (rest k)
 
--- a statement does so, from whatever line on
+-- a statement does so
 abbrev IsQuiet : Stmt → Type 0
-IsQuiet s = (line : ℕ) → TakesAsked ((meaning s).from line)
+IsQuiet s = TakesAsked (meaning s)
 
 abbrev Known : Type 0
 Known = (s : Stmt) × IsQuiet s
@@ -184,54 +184,47 @@ Known = (s : Stmt) × IsQuiet s
 abbrev only : Known → Stmt
 only known = known.0
 
-in_order_takes : (ss : List Known) (line : ℕ) → TakesAsked (in_order (map meaning (map only ss)) line)
-in_order_takes [] line = pure_takes {A = Unit {0}} tt
-in_order_takes (s ∷ ss) line =
-    bind_takes ((meaning s.0).from line) (λ _. in_order (map meaning (map only ss)) (line + (meaning s.0).count)) (s.1 line) (λ _. in_order_takes ss (line + (meaning s.0).count))
+-- what a list of statements does
+abbrev all_of : List Known → Act Variables (Unit {0})
+all_of ss = in_order (map meaning (map only ss))
+
+in_order_takes : (ss : List Known) → TakesAsked (all_of ss)
+in_order_takes [] = pure_takes {A = Unit {0}} tt
+in_order_takes (s ∷ ss) = bind_takes (meaning s.0) (λ _. all_of ss) s.1 (λ _. in_order_takes ss)
+
+-- what comes after a condition
+tested_takes : (test : Condition) (p q : Act Variables (Unit {0})) → TakesAsked p → TakesAsked q → TakesAsked (condition_value test >>= (λ so. choose so p q))
+tested_takes test p q h k = bind_takes (condition_value test) (λ so. choose so p q) (condition_takes test) (λ so. choose_takes so p q h k)
 
 is_quiet : (s : Stmt) → IsQuiet s
 is_quiet s = ind-Stmt IsQuiet (λ x y same. subst (λ z. IsQuiet (roll-Stmt z)) same (layer y)) s
   where
-    via : (x : Stmt-F Stmt) → ((line : ℕ) → TakesAsked ((meaning_step (map-Stmt Stmt Lined meaning x)).from line)) → IsQuiet (roll-Stmt x)
-    via x h = subst (λ (lined : Lined). (line : ℕ) → TakesAsked (lined.from line)) (sym (meaning_layer x)) h
+    via : (x : Stmt-F Stmt) → TakesAsked (meaning_step (map-Stmt Stmt (Act Variables (Unit {0})) meaning x)) → IsQuiet (roll-Stmt x)
+    via x h = subst (λ (does : Act Variables (Unit {0})). TakesAsked does) (sym (meaning_layer x)) h
 
     layer : (y : Stmt-F Known) → IsQuiet (roll-Stmt (map-Stmt Known Stmt only y))
-    layer (stmt.Declare is_var name type first) = via (stmt.Declare is_var name type first) (λ line. stored_takes line name first)
-    layer (stmt.Assign name value) = via (stmt.Assign name value) (λ line. stored_takes line name value)
-    layer (stmt.Print atom) = via (stmt.Print atom) (λ line. value_takes atom (λ value. print_line (printed_value value)) (λ value. put_all_takes (printed_value value ++ 10 ∷ [])))
-    layer (stmt.PrintText text) = via (stmt.PrintText text) (λ line. put_all_takes (text ++ 10 ∷ []))
-    layer (stmt.If test chosen None) =
-        via (stmt.If test (map only chosen) None)
-        (λ line. bind_takes (condition_value test) (λ so. choose so (in_order (map meaning (map only chosen)) (suc line)) (pure {A = Unit {0}} tt)) (condition_takes test)
-        (λ so. choose_takes so (in_order (map meaning (map only chosen)) (suc line)) (pure {A = Unit {0}} tt) (in_order_takes chosen (suc line)) (pure_takes {A = Unit {0}} tt)))
-    layer (stmt.If test chosen (Some other)) =
-        via (stmt.If test (map only chosen) (Some (map only other)))
-        (λ line.
-        let behind = suc (suc line + count_of (map meaning (map only chosen))) in
-        bind_takes (condition_value test) (λ so. choose so (in_order (map meaning (map only chosen)) (suc line)) (in_order (map meaning (map only other)) behind)) (condition_takes test)
-        (λ so. choose_takes so (in_order (map meaning (map only chosen)) (suc line)) (in_order (map meaning (map only other)) behind) (in_order_takes chosen (suc line)) (in_order_takes other behind)))
-    layer (stmt.While test body) = via (stmt.While test (map only body)) (λ line. while_takes test (in_order (map meaning (map only body)) (suc line)) (in_order_takes body (suc line)))
-    layer (stmt.Spin test) = via (stmt.Spin test) (λ line. while_takes test (pure {A = Unit {0}} tt) (pure_takes {A = Unit {0}} tt))
-    layer (stmt.For name from to body) =
-        via (stmt.For name from to (map only body))
-        (λ line.
-        let all = in_order (map meaning (map only body)) (suc line) in
-        number_takes from (λ a. with_number to (λ b. for_numbers line name a (count_until a b) all))
-        (λ a. number_takes to (λ b. for_numbers line name a (count_until a b) all) (λ b. numbers_take line name all (in_order_takes body (suc line)) (count_until a b) a)))
-    layer (stmt.Assert test) =
-        via (stmt.Assert test)
-        (λ line. bind_takes (condition_value test) (λ so. choose so (pure {A = Unit {0}} tt) (over (run.Halt assert_halt 0 line))) (condition_takes test)
-        (λ so. choose_takes so (pure {A = Unit {0}} tt) (over (run.Halt assert_halt 0 line)) (pure_takes {A = Unit {0}} tt) (over_takes (Unit {0}) (run.Halt assert_halt 0 line))))
-    layer (stmt.Halt text) = via (stmt.Halt text) (λ line. over_takes (Unit {0}) (run.Halt halt_halt 0 line))
+    layer (stmt.Declare is_var name type first) = via (stmt.Declare is_var name type first) (stored_takes name first)
+    layer (stmt.Assign name value) = via (stmt.Assign name value) (stored_takes name value)
+    layer (stmt.Print atom) = via (stmt.Print atom) (value_takes atom (λ value. print_line (printed_value value)) (λ value. put_all_takes (printed_value value ++ 10 ∷ [])))
+    layer (stmt.PrintText text) = via (stmt.PrintText text) (put_all_takes (text ++ 10 ∷ []))
+    layer (stmt.If test chosen other) = via (stmt.If test (map only chosen) (map only other)) (tested_takes test (all_of chosen) (all_of other) (in_order_takes chosen) (in_order_takes other))
+    layer (stmt.While test body) = via (stmt.While test (map only body)) (while_takes test (all_of body) (in_order_takes body))
+    layer (stmt.For name from to body line) =
+        via (stmt.For name from to (map only body) line)
+        (number_takes from (λ a. with_number to (λ b. for_numbers line name a (count_until a b) (all_of body)))
+        (λ a. number_takes to (λ b. for_numbers line name a (count_until a b) (all_of body)) (λ b. numbers_take line name (all_of body) (in_order_takes body) (count_until a b) a)))
+    layer (stmt.Assert test line) =
+        via (stmt.Assert test line) (tested_takes test (pure tt) (over (run.Halt assert_halt 0 line)) (pure_takes {A = Unit {0}} tt) (over_takes (Unit {0}) (run.Halt assert_halt 0 line)))
+    layer (stmt.Halt text line) = via (stmt.Halt text line) (over_takes (Unit {0}) (run.Halt halt_halt 0 line))
 
-body_takes : (ss : List Stmt) (line : ℕ) → TakesAsked (in_order (map meaning ss) line)
-body_takes [] line = pure_takes {A = Unit {0}} tt
-body_takes (s ∷ ss) line = bind_takes ((meaning s).from line) (λ _. in_order (map meaning ss) (line + (meaning s).count)) (is_quiet s line) (λ _. body_takes ss (line + (meaning s).count))
+body_takes : (ss : List Stmt) → TakesAsked (in_order (map meaning ss))
+body_takes [] = pure_takes {A = Unit {0}} tt
+body_takes (s ∷ ss) = bind_takes (meaning s) (λ _. in_order (map meaning ss)) (is_quiet s) (λ _. body_takes ss)
 
 program_takes : (plain : Plain) → TakesAsked (program plain)
 program_takes plain =
-    bind_takes (turn >> in_order (map meaning plain.body) first_body_line) (λ _. with_number plain.value pure)
-    (bind_takes turn (λ _. in_order (map meaning plain.body) first_body_line) turn_takes (λ _. body_takes plain.body first_body_line))
+    bind_takes (turn >> in_order (map meaning plain.body)) (λ _. with_number plain.value pure)
+    (bind_takes turn (λ _. in_order (map meaning plain.body)) turn_takes (λ _. body_takes plain.body))
     (λ _. number_takes plain.value pure pure_takes)
 
 -- what is known of a run is that of its last part

@@ -20,11 +20,11 @@ use Rattle.sl_core.specs.Meaning.{Callees, Flow, begin, leave, given, body, func
 use Rattle.sl_core.specs.Meaning as lowest
 use Rattle.sl_core.proofs.Equations.{path_runs, call_runs, return_runs}
 use Rattle.sl_core.proofs.Steady.{functions_respect}
-use Rattle.sl_plain.specs.declared.line.Kind.TheVariants as kind
-use Rattle.sl_plain.specs.declared.tree.Plain.{Plain}
+use Rattle.sl_plain.specs.declared.program.Kind.TheVariants as kind
+use Rattle.sl_plain.specs.declared.program.Plain.{Plain}
 use Rattle.sl_plain.specs.Numbers.{z_type}
-use Rattle.sl_plain.specs.Plain.{Declared, declaration, kind_of_atom, scoped_in_order, scoped, joined, declared_in, declared, IsProgram}
-use Rattle.sl_plain.specs.Means.{Value, Of, Variables, with_number, meaning, first_body_line, program, none_held, plain_run}
+use Rattle.sl_plain.specs.Program.{Declared, declaration, kind_of_atom, scoped_in_order, scoped, joined, declared_in, declared, IsProgram}
+use Rattle.sl_plain.specs.Means.{Value, Of, Variables, with_number, meaning, program, none_held, plain_run}
 use Rattle.sl_plain.specs.Means as means
 use Rattle.sl_plain.specs.Lowered.{atom_expr, lowered, unnamed_of, main_body, main_of, start_fun, core_of, variable, z}
 use Rattle.sl_plain.specs.Lowered as lower
@@ -70,7 +70,7 @@ has_type program = refl
 -- no condition
 trivial : (names : List Declared) (rooms : ℕ) → IsKept names rooms 0 (λ s. Unit {0})
 trivial names rooms = record {
-  store = λ scope within name entry h line less right fits is. tt;
+  store = λ scope within name entry h right fits is lines. tt;
   print = λ scope within atom type h is. tt;
   text = λ bytes are. tt;
   choice = λ scope within test fits is chosen other a b. tt;
@@ -107,7 +107,7 @@ module _ (plain : Plain) (is : IsProgram plain) where
 
   -- what `main` does
   abbrev main : Act Variables ℤ
-  main = means.in_order (map meaning plain.body) first_body_line >> with_number plain.value pure
+  main = means.in_order (map meaning plain.body) >> with_number plain.value pure
 
   module _ (call : Callees) (calm : (function : ℕ) → Steady (call function)) where
     abbrev returns : List CoreStmt
@@ -142,9 +142,9 @@ module _ (plain : Plain) (is : IsProgram plain) where
     main_goes t =
         let fits = program_is plain is in
         let after = statements target (has_type plain) names is.distinct below rooms call calm 0 (λ s. Unit {0}) (trivial names rooms) plain.body [] fits.scope fits.scoped (λ name entry h. absurd (nothing_declared name entry h)) fits.known in
-        let goes = after.goes 0 first_body_line (omega arith) t none_held unwritten (λ name entry h. absurd (nothing_declared name entry h)) (length-replicate rooms None) in
-        let low = lower.in_order (map (lowered names) plain.body) 0 first_body_line in
-        let k = returned fits after.within (means.in_order (map meaning plain.body) first_body_line t none_held) (does low t (memory_of names below unwritten none_held)) goes
+        let goes = after.goes 0 (omega arith) t none_held unwritten (λ name entry h. absurd (nothing_declared name entry h)) (length-replicate rooms None) in
+        let low = lower.in_order (map (lowered names) plain.body) 0 in
+        let k = returned fits after.within (means.in_order (map meaning plain.body) t none_held) (does low t (memory_of names below unwritten none_held)) goes
         in subst (λ y. MainEnds (main t none_held) y) (sym (do_all-append target (has_type plain) names is.distinct below rooms call low returns t (memory_of names below unwritten none_held))) k
 
   -- how the call of `main` ends where it ended so

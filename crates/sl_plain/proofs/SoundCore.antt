@@ -1,6 +1,7 @@
 -- The core of a plain program is sound.
-use Rattle.std.proofs.Common.{◌≡◌, inr, ℕ, zero, suc, ◌+◌, ◌^◌, ◌<◌, ◌≤◌, List, [], ◌∷◌, ◌++◌, map, length, replicate, true, false, Some, is_some, bytes_eq, codes, slice_get, refl, sym, subst, ◌∙◌, arith, flat_map, eqb, ne_eqb, ne_of_lt}
-use Rattle.std.specs.List.{IsDistinct, AllByRecursion}
+use Rattle.std.proofs.Common.{◌≡◌, inr, ℕ, zero, suc, ◌+◌, ◌^◌, ◌<◌, ◌≤◌, List, [], ◌∷◌, ◌++◌, map, length, replicate, true, false, not, ◌&&◌, Some, is_some, bytes_eq, codes, slice_get, refl, sym, subst, ◌∙◌, arith, flat_map, eqb, ne_eqb, ne_of_lt}
+use Rattle.std.specs.List.{list_all, IsDistinct, AllByRecursion}
+use Rattle.std.specs.Char.{is_ascii_uppercase, is_ascii_alphanumeric}
 use Rattle.std.proofs.lemmas.List.{length-replicate}
 use Rattle.std.specs.Int.Signed.{le_z_yes}
 use Rattle.sl_core.specs.declared.tree.Core.{Core}
@@ -11,17 +12,15 @@ use Rattle.sl_core.specs.declared.tree.CoreStmt.TheVariants as core
 use Rattle.sl_core.specs.declared.tree.CoreExpr.TheVariants as expr
 use Rattle.sl_core.specs.Meaning.{run_callees}
 use Rattle.sl_core.specs.Sound.{NumberOf, kind_of, fits, strays, stmt_depth, stmt_in_range, deepest, IsType, IsExitType, IsFunction, IsSound}
-use Rattle.sl_plain.specs.declared.line.Kind.TheVariants as kind
-use Rattle.sl_plain.specs.declared.line.Line.TheVariants as source
-use Rattle.sl_plain.specs.declared.tree.Plain.{Plain}
+use Rattle.sl_plain.specs.declared.program.Kind.TheVariants as kind
+use Rattle.sl_plain.specs.declared.program.Plain.{Plain}
 use Rattle.sl_plain.specs.Numbers.{z_type}
-use Rattle.sl_plain.specs.Lines.{IsLine, IsLetterOrDigit}
-use Rattle.sl_plain.specs.Plain.{Declared, declared, depth, lines_of_stmt, body_lines, BeginsWithCapital, IsProgram}
-use Rattle.sl_plain.specs.Means.{first_body_line}
-use Rattle.sl_plain.specs.Reach.{IsInReach}
+use Rattle.sl_plain.specs.Names.{is_reserved_app_name, begins_with_capital, is_app_name}
+use Rattle.sl_plain.specs.Program.{AnAtom, IsPart, Declared, declared, depth, parts_in, parts, IsProgram}
+use Rattle.sl_plain.specs.Reach.{lines_in, IsInReach}
 use Rattle.sl_plain.specs.Lowered.{atom_expr, lowered, unnamed_of, main_body, main_of, start_fun, core_of, variable, z}
 use Rattle.sl_plain.specs.Lowered as lower
-use Rattle.sl_plain.proofs.Names.{from_all, to_all, all_so, all_before, all_behind, all_append}
+use Rattle.sl_plain.proofs.Names.{both, from_all, to_all, all_so, all_pass, all_before, all_behind, all_append}
 use Rattle.sl_plain.proofs.Statements.{statements}
 use Rattle.sl_plain.proofs.Keeping.{IsKept}
 use Rattle.sl_plain.proofs.Runs.{joined_map, program_is, has_type, calm_run, core_never_stuck, nothing_declared}
@@ -42,14 +41,21 @@ all_replicate P x h zero = tt
 all_replicate P x h (suc n) = (h, all_replicate P x h n)
 
 -- a name that begins with a capital isn't that of the function in which a run begins
-not_start : (name : List ℕ) → BeginsWithCapital name → bytes_eq (name ++ codes ".main") (codes "start") ≡ false
-not_start [] capital = absurd capital
+not_start : (name : List ℕ) → begins_with_capital name ≡ true → bytes_eq (name ++ codes ".main") (codes "start") ≡ false
+not_start [] capital = absurd (false_not_true capital)
+  where
+    false_not_true : false ≡ true → ⊥
+    false_not_true h = grind arith
 not_start (byte ∷ bytes) capital =
     let apart : eqb byte 115 ≡ false = ne_eqb byte 115 (λ same. ne_of_lt (small byte capital) same)
     in rw apart refl
   where
-    small : (byte : ℕ) → (65 ≤ byte) × (byte ≤ 90) → byte < 115
-    small byte h = omega (arith, h)
+    small : (byte : ℕ) → is_ascii_uppercase byte ≡ true → byte < 115
+    small byte h = grind (arith, h)
+
+-- what a name of an App is
+app_name : (name : List ℕ) → is_app_name name ≡ true → (begins_with_capital name ≡ true) × (list_all is_ascii_alphanumeric name ≡ true)
+app_name name is = both (begins_with_capital name) (list_all is_ascii_alphanumeric name) (both (begins_with_capital name && list_all is_ascii_alphanumeric name) (not (is_reserved_app_name name)) is).0
 
 module _ (plain : Plain) (is : IsProgram plain) (reach : IsInReach plain) where
   abbrev target : Core
@@ -65,16 +71,19 @@ module _ (plain : Plain) (is : IsProgram plain) (reach : IsInReach plain) where
   abbrev main : CoreFun
   main = main_of plain
 
-  -- the lines of the body
-  lines_are : AllByRecursion IsLine (flat_map lines_of_stmt plain.body ++ source.Return plain.value ∷ [])
-  lines_are = from_all IsLine (body_lines plain) is.lines
+  -- what is written out in the body
+  parts_are : AllByRecursion IsPart (flat_map parts_in plain.body ++ AnAtom plain.value ∷ [])
+  parts_are = from_all IsPart (parts plain) is.written
 
   -- a condition that is kept by all statements holds of those of `main` before its return
-  kept_by : (P : CoreStmt → Type 0) → IsKept names rooms (2 ^ 32) P → AllByRecursion P (lower.in_order (map (lowered names) plain.body) 0 first_body_line)
+  kept_by : (P : CoreStmt → Type 0) → IsKept names rooms (2 ^ 32) P → AllByRecursion P (lower.in_order (map (lowered names) plain.body) 0)
   kept_by P kept =
       let fit = program_is plain is in
       let after = statements target (has_type plain) names is.distinct [] rooms (run_callees target) (calm_run plain is) (2 ^ 32) P kept plain.body [] fit.scope fit.scoped (λ name entry h. absurd (nothing_declared name entry h)) fit.known
-      in after.keeps (subst (λ lines. AllByRecursion IsLine lines) (sym (joined_map lines_of_stmt plain.body)) (all_before IsLine (flat_map lines_of_stmt plain.body) (source.Return plain.value ∷ []) lines_are)) 0 first_body_line (omega arith) reach.lines
+      in after.keeps
+      (subst (λ parts. AllByRecursion IsPart parts) (sym (joined_map parts_in plain.body)) (all_before IsPart (flat_map parts_in plain.body) (AnAtom plain.value ∷ []) parts_are))
+      (subst (λ lines. AllByRecursion (λ line. line < 2 ^ 32) lines) (sym (joined_map lines_in plain.body)) (from_all (λ line. line < 2 ^ 32) (flat_map lines_in plain.body) reach.lines))
+      0 (omega arith)
 
   -- all types fit
   fits_all : IsKept names rooms (2 ^ 32) (λ s. fits target main s ≡ true)
@@ -85,14 +94,17 @@ module _ (plain : Plain) (is : IsProgram plain) (reach : IsInReach plain) where
   returned_kind =
       let fit = program_is plain is in
       let after = statements target (has_type plain) names is.distinct [] rooms (run_callees target) (calm_run plain is) (2 ^ 32) (λ s. fits target main s ≡ true) fits_all plain.body [] fit.scope fit.scoped (λ name entry h. absurd (nothing_declared name entry h)) fit.known
-      in atom_kind target (has_type plain) names rooms main refl fit.scope after.within plain.value kind.Number fit.value (all_behind IsLine (flat_map lines_of_stmt plain.body) (source.Return plain.value ∷ []) lines_are).0
+      in atom_kind target (has_type plain) names rooms main refl fit.scope after.within plain.value kind.Number fit.value (all_behind IsPart (flat_map parts_in plain.body) (AnAtom plain.value ∷ []) parts_are).0
 
   -- the bytes of the name of `main`
   name_bytes : AllByRecursion (λ byte. byte ≤ 255) main.name
-  name_bytes = all_append (λ byte. byte ≤ 255) plain.name (codes ".main") (all_so IsLetterOrDigit (λ byte. byte ≤ 255) (λ byte h. small byte h) plain.name (from_all IsLetterOrDigit plain.name is.name.letters)) (omega arith, (omega arith, (omega arith, (omega arith, (omega arith, tt)))))
+  name_bytes =
+      all_append (λ byte. byte ≤ 255) plain.name (codes ".main")
+      (all_so (λ byte. is_ascii_alphanumeric byte ≡ true) (λ byte. byte ≤ 255) small plain.name (all_pass is_ascii_alphanumeric plain.name (app_name plain.name is.name).1))
+      (omega arith, (omega arith, (omega arith, (omega arith, (omega arith, tt)))))
     where
-      small : (byte : ℕ) → IsLetterOrDigit byte → byte ≤ 255
-      small byte h = grind arith
+      small : (byte : ℕ) → is_ascii_alphanumeric byte ≡ true → byte ≤ 255
+      small byte h = grind (arith, h)
 
   main_is : IsFunction target main
   main_is = record {
@@ -101,7 +113,7 @@ module _ (plain : Plain) (is : IsProgram plain) (reach : IsInReach plain) where
     fit = to_all _ main.body (all_append _ low returns (kept_by (λ s. fits target main s ≡ true) fits_all) (return_fits target main (atom_expr names plain.value) ∙ rw returned_kind refl, tt));
     loops = to_all _ main.body (all_append _ low returns (kept_by (λ s. strays s ≡ false) (strays_kept names rooms (2 ^ 32))) (return_strays (atom_expr names plain.value), tt));
     depth = to_all _ main.body (all_append _ low returns
-        (all_so (λ s. stmt_depth s ≤ 16 + 4) (λ s. stmt_depth s ≤ deepest) (λ s h. omega arith) low (statements_shallow names 16 plain.body (from_all (λ s. depth s ≤ 16) plain.body is.depth) 0 first_body_line))
+        (all_so (λ s. stmt_depth s ≤ 16 + 4) (λ s. stmt_depth s ≤ deepest) (λ s h. omega arith) low (statements_shallow names 16 plain.body (from_all (λ s. depth s ≤ 16) plain.body is.depth) 0))
         (let d = return_depth (atom_expr names plain.value) in let e = atom_depth names plain.value in omega arith, tt));
     in_range = record {
       name = to_all _ main.name name_bytes;
@@ -111,7 +123,7 @@ module _ (plain : Plain) (is : IsProgram plain) (reach : IsInReach plain) where
   }
     where
       low : List CoreStmt
-      low = lower.in_order (map (lowered names) plain.body) 0 first_body_line
+      low = lower.in_order (map (lowered names) plain.body) 0
 
       returns : List CoreStmt
       returns = core.Return (atom_expr names plain.value) ∷ []
@@ -139,7 +151,7 @@ pub sound : (plain : Plain) → IsProgram plain → IsInReach plain → IsSound 
 unfolding core_of IsDistinct
 sound plain is reach = record {
   types = to_all IsType (Int z_type ∷ []) (z_is_type, tt);
-  names = ((not_start plain.name is.name.capital, tt), (tt, tt));
+  names = ((not_start plain.name (app_name plain.name is.name).0, tt), (tt, tt));
   functions = to_all (IsFunction (core_of plain)) (main_of plain ∷ start_fun ∷ []) (main_is plain is reach, (start_is plain is reach, tt));
   entry = (start_fun, Int z_type, refl, refl, z_is_exit);
   never_stuck = core_never_stuck plain is;

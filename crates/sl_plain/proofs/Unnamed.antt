@@ -1,15 +1,15 @@
 -- How many variables without names statements need.
-use Rattle.std.proofs.Common.{◌≡◌, ℕ, suc, ◌+◌, ◌<◌, ◌≤◌, List, [], ◌∷◌, ◌++◌, length, take, get_or, max, map, Bool, Some, None, sym, ap, ◌∙◌, arith}
+use Rattle.std.proofs.Common.{◌≡◌, ℕ, suc, ◌+◌, ◌<◌, ◌≤◌, List, [], ◌∷◌, ◌++◌, length, take, get_or, max, map, Bool, sym, ap, ◌∙◌, arith}
 use Rattle.std.proofs.lemmas.List.{take_more, map-append}
 use Rattle.std.proofs.lemmas.List.Sums.{fold-append}
-use Rattle.sl_plain.specs.declared.line.Kind.{Kind}
-use Rattle.sl_plain.specs.declared.line.Atom.{Atom}
-use Rattle.sl_plain.specs.declared.line.Right.{Right}
-use Rattle.sl_plain.specs.declared.line.Condition.{Condition}
-use Rattle.sl_plain.specs.declared.tree.Stmt.{Stmt, Stmt-F, fold-roll-Stmt, map-Stmt, roll-Stmt}
-use Rattle.sl_plain.specs.declared.tree.Stmt.TheOpen as layer
-use Rattle.sl_plain.specs.declared.tree.Stmt.TheVariants as stmt
-use Rattle.sl_plain.specs.Plain.{deepest}
+use Rattle.sl_plain.specs.declared.program.Kind.{Kind}
+use Rattle.sl_plain.specs.declared.program.Atom.{Atom}
+use Rattle.sl_plain.specs.declared.program.Right.{Right}
+use Rattle.sl_plain.specs.declared.program.Condition.{Condition}
+use Rattle.sl_plain.specs.declared.program.Stmt.{Stmt, Stmt-F, fold-roll-Stmt, map-Stmt, roll-Stmt}
+use Rattle.sl_plain.specs.declared.program.Stmt.TheOpen as layer
+use Rattle.sl_plain.specs.declared.program.Stmt.TheVariants as stmt
+use Rattle.sl_plain.specs.Program.{deepest}
 use Rattle.sl_plain.specs.Lowered.{unnamed_step, unnamed_in}
 use Rattle.sl_plain.proofs.Names.{all_so}
 use Rattle.sl_plain.proofs.Greatest.{greatest_within, greatest_bounds}
@@ -42,28 +42,22 @@ unnamed_of_print atom = ap unnamed_in (sym (stmt.rolls-Print atom)) ∙ unnamed_
 pub unnamed_of_print_text : (text : List ℕ) → unnamed_in (stmt.PrintText text) ≡ 0
 unnamed_of_print_text text = ap unnamed_in (sym (stmt.rolls-PrintText text)) ∙ unnamed_layer (layer.PrintText text)
 
-pub unnamed_of_if : (test : Condition) (chosen : List Stmt) → unnamed_in (stmt.If test chosen None) ≡ max (deepest (map unnamed_in chosen)) 0
-unnamed_of_if test chosen = ap unnamed_in (sym (stmt.rolls-If test chosen None)) ∙ unnamed_layer (layer.If test chosen None)
-
-pub unnamed_of_if_else : (test : Condition) (chosen other : List Stmt) → unnamed_in (stmt.If test chosen (Some other)) ≡ max (deepest (map unnamed_in chosen)) (deepest (map unnamed_in other))
-unnamed_of_if_else test chosen other = ap unnamed_in (sym (stmt.rolls-If test chosen (Some other))) ∙ unnamed_layer (layer.If test chosen (Some other))
+pub unnamed_of_if : (test : Condition) (chosen other : List Stmt) → unnamed_in (stmt.If test chosen other) ≡ max (deepest (map unnamed_in chosen)) (deepest (map unnamed_in other))
+unnamed_of_if test chosen other = ap unnamed_in (sym (stmt.rolls-If test chosen other)) ∙ unnamed_layer (layer.If test chosen other)
 
 pub unnamed_of_while : (test : Condition) (body : List Stmt) → unnamed_in (stmt.While test body) ≡ deepest (map unnamed_in body)
 unnamed_of_while test body = ap unnamed_in (sym (stmt.rolls-While test body)) ∙ unnamed_layer (layer.While test body)
 
-pub unnamed_of_spin : (test : Condition) → unnamed_in (stmt.Spin test) ≡ 0
-unnamed_of_spin test = ap unnamed_in (sym (stmt.rolls-Spin test)) ∙ unnamed_layer (layer.Spin test)
+pub unnamed_of_for : (name : List ℕ) (first end : Atom) (body : List Stmt) (line : ℕ) → unnamed_in (stmt.For name first end body line) ≡ suc (suc (deepest (map unnamed_in body)))
+unnamed_of_for name first end body line = ap unnamed_in (sym (stmt.rolls-For name first end body line)) ∙ unnamed_layer (layer.For name first end body line)
 
-pub unnamed_of_for : (name : List ℕ) (first end : Atom) (body : List Stmt) → unnamed_in (stmt.For name first end body) ≡ suc (suc (deepest (map unnamed_in body)))
-unnamed_of_for name first end body = ap unnamed_in (sym (stmt.rolls-For name first end body)) ∙ unnamed_layer (layer.For name first end body)
+pub unnamed_of_assert : (test : Condition) (line : ℕ) → unnamed_in (stmt.Assert test line) ≡ 0
+unnamed_of_assert test line = ap unnamed_in (sym (stmt.rolls-Assert test line)) ∙ unnamed_layer (layer.Assert test line)
 
-pub unnamed_of_assert : (test : Condition) → unnamed_in (stmt.Assert test) ≡ 0
-unnamed_of_assert test = ap unnamed_in (sym (stmt.rolls-Assert test)) ∙ unnamed_layer (layer.Assert test)
+pub unnamed_of_halt : (text : List ℕ) (line : ℕ) → unnamed_in (stmt.Halt text line) ≡ 0
+unnamed_of_halt text line = ap unnamed_in (sym (stmt.rolls-Halt text line)) ∙ unnamed_layer (layer.Halt text line)
 
-pub unnamed_of_halt : (text : List ℕ) → unnamed_in (stmt.Halt text) ≡ 0
-unnamed_of_halt text = ap unnamed_in (sym (stmt.rolls-Halt text)) ∙ unnamed_layer (layer.Halt text)
-
-pub ruleset unnamed_rules = (unnamed_of_declare, unnamed_of_assign, unnamed_of_print, unnamed_of_print_text, unnamed_of_if, unnamed_of_if_else, unnamed_of_while, unnamed_of_spin, unnamed_of_for, unnamed_of_assert, unnamed_of_halt)
+pub ruleset unnamed_rules = (unnamed_of_declare, unnamed_of_assign, unnamed_of_print, unnamed_of_print_text, unnamed_of_if, unnamed_of_while, unnamed_of_for, unnamed_of_assert, unnamed_of_halt)
 
 -- one more statement of a list
 pub unnamed_more : (stmts : List Stmt) (i : ℕ) (s d : Stmt) → i < length stmts → s ≡ get_or stmts i d → deepest (map unnamed_in (take (i + 1) stmts)) ≡ max (deepest (map unnamed_in (take i stmts))) (unnamed_in s)

@@ -23,28 +23,21 @@ use Rattle.sl_run.specs.Statements.{gotten, Next}
 use Rattle.sl_core.specs.Meaning.{evaluate, halt_number, number_or_halt, is_true, Callees, meaning}
 use Rattle.sl_core.specs.Meaning as core_meaning
 use Rattle.sl_core.proofs.Equations.{number_runs, path_runs, apply_runs, compare_runs, store_runs, get_runs}
-use Rattle.sl_plain.specs.declared.line.Kind.{Kind}
-use Rattle.sl_plain.specs.declared.line.Kind.TheVariants as kind
-use Rattle.sl_plain.specs.declared.line.Atom.{Atom}
-use Rattle.sl_plain.specs.declared.line.Atom.TheVariants.{Name, Number, Truth}
-use Rattle.sl_plain.specs.declared.line.Right.{Right}
-use Rattle.sl_plain.specs.declared.line.Right.TheVariants.{Just, Compare, Apply, Get}
-use Rattle.sl_plain.specs.declared.line.Condition.{Condition}
-use Rattle.sl_plain.specs.declared.line.Condition.TheVariants as condition
+use Rattle.sl_plain.specs.declared.program.Kind.{Kind}
+use Rattle.sl_plain.specs.declared.program.Kind.TheVariants as kind
+use Rattle.sl_plain.specs.declared.program.Atom.{Atom}
+use Rattle.sl_plain.specs.declared.program.Atom.TheVariants.{Name, Number, Truth}
+use Rattle.sl_plain.specs.declared.program.Right.{Right}
+use Rattle.sl_plain.specs.declared.program.Right.TheVariants.{Just, Compare, Apply, Get}
+use Rattle.sl_plain.specs.declared.program.Condition.{Condition}
+use Rattle.sl_plain.specs.declared.program.Condition.TheVariants as condition
 use Rattle.sl_plain.specs.Numbers.{z_type}
-use Rattle.sl_plain.specs.Lines.{IsNumber}
-use Rattle.sl_plain.specs.Plain.{Declared, declaration, same_kind, kind_of_atom, has_kind, are_numbers, right_fits, condition_fits}
+use Rattle.sl_plain.specs.Names.{is_number}
+use Rattle.sl_plain.specs.Program.{Declared, declaration, same_kind, kind_of_atom, has_kind, are_numbers, right_fits, condition_fits}
 use Rattle.sl_plain.specs.Means.{Value, Of, Is, Variables, value_of, with_value_of, with_value, with_number, with_truth, compare, result_or_halt, right_value, condition_value, natural_of, count_until}
 use Rattle.sl_plain.specs.Lowered.{path_of, atom_expr, condition_expr, store_right, z}
+use Rattle.sl_plain.proofs.Names.{both}
 use Rattle.sl_plain.proofs.Held.{shown, memory_of, Holds, Ready, Within, read_is}
-
--- both tests hold
-pub both : (a b : Bool) → a && b ≡ true → (a ≡ true) × (b ≡ true)
-both true b h = (refl, h)
-both false b h = absurd (false_not_true h)
-  where
-    false_not_true : false ≡ true → ⊥
-    false_not_true h = grind arith
 
 -- types that are tested to be the same are
 pub kinds_same : (a b : Kind) → same_kind a b ≡ true → a ≡ b
@@ -171,25 +164,25 @@ module _ (lower : Core) (typed : slice_get lower.types 0 ≡ Some (Int z_type)) 
     just_is kind.Truth atom h has = inl (Is has.0, t, (has.0, refl), with_value_is variables t atom (Is has.0) pure has.1, atom_runs variables atom kind.Truth (Is has.0) h has.1 t)
 
     -- a right side, and the statement that stores it
-    abbrev pub Stores : ℕ → Kind → Right → Type 0
-    Stores line type right =
-        (low : Step Memory core.Value) × Gives type variables memory (right_value line right t variables) low
-        × ((call : Callees) (path : CorePath) → meaning lower (store_right names line path right) call t memory ≡ step_then (step_then low (core_meaning.store path)) (λ _. pure Next))
+    abbrev pub Stores : Kind → Right → Type 0
+    Stores type right =
+        (low : Step Memory core.Value) × Gives type variables memory (right_value right t variables) low
+        × ((call : Callees) (path : CorePath) → meaning lower (store_right names path right) call t memory ≡ step_then (step_then low (core_meaning.store path)) (λ _. pure Next))
 
-    pub right_is : (line : ℕ) (type : Kind) (right : Right) → right_fits scope type right ≡ true → Stores line type right
-    right_is line type (Just atom) h =
+    pub right_is : (type : Kind) (right : Right) → right_fits scope type right ≡ true → Stores type right
+    right_is type (Just atom) h =
         let is = kind_is type (kind_of_atom scope atom) h
         in (evaluate lower (atom_expr names atom) t memory, just_is type atom is (atom_holds scope variables ready atom type is), λ call path. store_runs lower call path (atom_expr names atom) t memory)
-    right_is line kind.Truth (Compare by a b) h =
+    right_is kind.Truth (Compare by a b) h =
         let is = compare_is by a b h
         in (
           evaluate lower (condition_expr names (condition.Compare by a b)) t memory,
           inl (Is is.0, t, (is.0, refl), ap (λ s. step_then s (λ so. pure (Is so))) is.1, is.2),
           λ call path. store_runs lower call path (condition_expr names (condition.Compare by a b)) t memory,
         )
-    right_is line kind.Number (Compare by a b) h = grind arith
-    right_is line kind.Truth (Apply op a b) h = grind arith
-    right_is line kind.Number (Apply op a b) h =
+    right_is kind.Number (Compare by a b) h = grind arith
+    right_is kind.Truth (Apply op a b line) h = grind arith
+    right_is kind.Number (Apply op a b line) h =
         let p = two a b h in
         let e : CoreExpr = expr.Apply op (atom_expr names a) (atom_expr names b) z 0 line
         in (
@@ -200,11 +193,11 @@ module _ (lower : Core) (typed : slice_get lower.types 0 ≡ Some (Int z_type)) 
               (result_is line (applied z_type op p.0 p.1)),
           λ call path. store_runs lower call path e t memory,
         )
-    right_is line kind.Number Get h =
+    right_is kind.Number Get h =
         let number : ℤ = gotten (first_of t.rest) in
         let u : Trace = record t { events = t.events ++ Asks ∷ []; rest = rest_of t.rest }
         in (Went (core.Number number) u memory, inl (Of number, u, (number, refl), refl, refl), λ call path. get_runs lower call path t memory)
-    right_is line kind.Truth Get h = grind arith
+    right_is kind.Truth Get h = grind arith
 
 -- Sums and counts of numbers ---------------------------------------------------------------------------------------------
 
@@ -224,12 +217,18 @@ less_or_not : (a b : ℤ) (so : Bool) → int_lt a b ≡ so → b ≤ℤ a → s
 less_or_not a b true is le = let below : a <ℤ b = lt_z_yes (subst T (sym is) tt) in absurd (omega (arith, ints))
 less_or_not a b false is le = refl
 
+-- the bounds of a number
+pub number_bounds : (n : ℤ) → is_number n ≡ true → (z_type.lo ≤ℤ n) × (n ≤ℤ z_type.hi)
+number_bounds n is =
+    let bounds = both (int_le z_type.lo n) (int_le n z_type.hi) is
+    in (le_z_yes (subst T (sym bounds.0) tt), le_z_yes (subst T (sym bounds.1) tt))
+
 -- the number behind one that is less than another is one of `Z` where both are
-pub next_number : (a b : ℤ) → IsNumber a → IsNumber b → holds Less a b ≡ true → applied z_type Add a (pos 1) ≡ Ok (a +ℤ pos 1)
+pub next_number : (a b : ℤ) → is_number a ≡ true → is_number b ≡ true → holds Less a b ≡ true → applied z_type Add a (pos 1) ≡ Ok (a +ℤ pos 1)
 next_number a b is_a is_b less =
     let below : a <ℤ b = lt_z_yes (subst T (sym less) tt) in
-    let from = is_a.0 in
-    let to = is_b.1 in
+    let from = (number_bounds a is_a).0 in
+    let to = (number_bounds b is_b).1 in
     let least : z_type.lo ≤ℤ (a +ℤ pos 1) = omega (arith, ints) in
     let greatest : (a +ℤ pos 1) ≤ℤ z_type.hi = omega (arith, ints)
     in rw (le_so z_type.lo (a +ℤ pos 1) least, le_so (a +ℤ pos 1) z_type.hi greatest) refl

@@ -1,9 +1,13 @@
--- Plain files: its definitions, in reading order.
+-- Plain trees and their programs: the definitions, in reading order.
 
--- the lines of a body, and how they are spelled (`IsLine`, `spelled`)
-pub mod Lines
--- plain files, and the programs that they hold (`IsPlain`, `IsProgram`)
-pub mod Plain
+-- the names, texts and numbers that a plain program may have
+pub mod Names
+-- which programs are plain (`IsProgram`)
+pub mod Program
+-- how depths, names and types are checked
+pub mod Checking
+-- which trees are plain, and their programs (`plain_of`)
+pub mod Reading
 -- the numbers of the type `Z`
 pub mod Numbers
 -- what a plain program does, as a run (`plain_run`)
@@ -14,7 +18,3 @@ pub mod Lowered
 pub mod Reach
 -- how the variables of a core are found by names
 pub mod Numbering
--- how a line is read (`line_of`)
-pub mod LineReading
--- how a plain file is read (`plain_of`)
-pub mod PlainReading

@@ -16,20 +16,20 @@ use Rattle.sl_core.specs.declared.tree.CoreStmt.TheVariants as core
 use Rattle.sl_core.specs.declared.tree.CoreExpr.{CoreExpr}
 use Rattle.sl_core.specs.declared.tree.CoreExpr.TheVariants as expr
 use Rattle.sl_num.specs.Comparing.{truth}
-use Rattle.sl_plain.specs.declared.line.Kind.{Kind}
-use Rattle.sl_plain.specs.declared.line.Kind.TheVariants as kind
-use Rattle.sl_plain.specs.declared.line.Atom.{Atom}
-use Rattle.sl_plain.specs.declared.line.Atom.TheVariants.{Name, Number, Truth}
-use Rattle.sl_plain.specs.declared.line.Right.{Right}
-use Rattle.sl_plain.specs.declared.line.Right.TheVariants.{Just, Compare, Apply, Get}
-use Rattle.sl_plain.specs.declared.line.Condition.{Condition}
-use Rattle.sl_plain.specs.declared.line.Condition.TheVariants as condition
-use Rattle.sl_plain.specs.declared.tree.Stmt.{Stmt, Stmt-F, fold-Stmt}
-use Rattle.sl_plain.specs.declared.tree.Stmt.TheOpen as stmt
-use Rattle.sl_plain.specs.declared.tree.Plain.{Plain}
+use Rattle.sl_plain.specs.declared.program.Kind.{Kind}
+use Rattle.sl_plain.specs.declared.program.Kind.TheVariants as kind
+use Rattle.sl_plain.specs.declared.program.Atom.{Atom}
+use Rattle.sl_plain.specs.declared.program.Atom.TheVariants.{Name, Number, Truth}
+use Rattle.sl_plain.specs.declared.program.Right.{Right}
+use Rattle.sl_plain.specs.declared.program.Right.TheVariants.{Just, Compare, Apply, Get}
+use Rattle.sl_plain.specs.declared.program.Condition.{Condition}
+use Rattle.sl_plain.specs.declared.program.Condition.TheVariants as condition
+use Rattle.sl_plain.specs.declared.program.Stmt.{Stmt, Stmt-F, fold-Stmt}
+use Rattle.sl_plain.specs.declared.program.Stmt.TheOpen as stmt
+use Rattle.sl_plain.specs.declared.program.Plain.{Plain}
 use Rattle.sl_plain.specs.Numbers.{z_type}
-use Rattle.sl_plain.specs.Plain.{Declared, declared, kind_of_atom, deepest, deepest_else}
-use Rattle.sl_plain.specs.Means.{assert_halt, halt_halt, first_body_line}
+use Rattle.sl_plain.specs.Program.{Declared, declared, kind_of_atom, deepest}
+use Rattle.sl_plain.specs.Means.{assert_halt, halt_halt}
 
 -- the number of the type `Z`, the only one
 abbrev pub z : ℕ
@@ -52,12 +52,12 @@ abbrev pub condition_expr : List Declared → Condition → CoreExpr
 condition_expr names (condition.Just atom) = atom_expr names atom
 condition_expr names (condition.Compare by a b) = expr.Compare by (atom_expr names a) (atom_expr names b) z
 
--- the value of a right side is stored, on this line of the one file
-abbrev pub store_right : List Declared → (line : ℕ) → CorePath → Right → CoreStmt
-store_right names line path (Just atom) = core.Store path (atom_expr names atom)
-store_right names line path (Compare by a b) = core.Store path (expr.Compare by (atom_expr names a) (atom_expr names b) z)
-store_right names line path (Apply op a b) = core.Store path (expr.Apply op (atom_expr names a) (atom_expr names b) z 0 line)
-store_right names line path Get = core.Get path
+-- the value of a right side is stored
+abbrev pub store_right : List Declared → CorePath → Right → CoreStmt
+store_right names path (Just atom) = core.Store path (atom_expr names atom)
+store_right names path (Compare by a b) = core.Store path (expr.Compare by (atom_expr names a) (atom_expr names b) z)
+store_right names path (Apply op a b line) = core.Store path (expr.Apply op (atom_expr names a) (atom_expr names b) z 0 line)
+store_right names path Get = core.Get path
 
 -- the variable without a name that stands behind so many others of them
 abbrev pub unnamed : List Declared → ℕ → CorePath
@@ -92,54 +92,26 @@ print_of (Some kind.Truth) e = core.If e (put_text (codes "T\n") ∷ []) (put_te
 print_of (Some kind.Number) e = core.Put e ∷ put_text (codes "\n") ∷ []
 print_of None e = core.Put e ∷ put_text (codes "\n") ∷ []
 
--- the core of a statement that stands in `for`s which have so many variables without names, and whose first line has this number; and
--- how many lines it has
-pub record Lowered : Type 0 where
-  pub count : ℕ
-  pub from : (taken line : ℕ) → List CoreStmt
+-- the core of a statement that stands in `for`s which have so many variables without names
+abbrev pub Lowered : Type 0
+Lowered = (taken : ℕ) → List CoreStmt
 
--- statements in order, the first from this line on
-abbrev pub in_order : List Lowered → (taken line : ℕ) → List CoreStmt
-in_order [] taken line = []
-in_order (s ∷ ss) taken line = s.from taken line ++ in_order ss taken (line + s.count)
-
-abbrev pub count_of : List Lowered → ℕ
-count_of [] = 0
-count_of (s ∷ ss) = s.count + count_of ss
-
--- the statements behind `else`, which stands on this line
-abbrev pub in_else : Option (List Lowered) → (taken line : ℕ) → List CoreStmt
-in_else None taken line = []
-in_else (Some block) taken line = in_order block taken (suc line)
-
-abbrev pub count_of_else : Option (List Lowered) → ℕ
-count_of_else None = 0
-count_of_else (Some block) = suc (count_of block)
-
--- a statement of one line
-abbrev pub on_line : (ℕ → List CoreStmt) → Lowered
-on_line from = record { count = 1; from = λ taken line. from line }
+-- statements in order
+abbrev pub in_order : List Lowered → Lowered
+in_order [] taken = []
+in_order (s ∷ ss) taken = s taken ++ in_order ss taken
 
 abbrev pub lowered_step : List Declared → Stmt-F Lowered → Lowered
-lowered_step names (stmt.Declare is_var name type first) = on_line (λ line. store_right names line (path_of names name) first ∷ [])
-lowered_step names (stmt.Assign name value) = on_line (λ line. store_right names line (path_of names name) value ∷ [])
-lowered_step names (stmt.Print atom) = on_line (λ line. print_of (kind_of_atom names atom) (atom_expr names atom))
-lowered_step names (stmt.PrintText text) = on_line (λ line. put_text (text ++ 10 ∷ []) ∷ [])
-lowered_step names (stmt.If test chosen other) = record {
-  count = suc (count_of chosen + count_of_else other + 1);
-  from = λ taken line. core.If (condition_expr names test) (in_order chosen taken (suc line)) (in_else other taken (suc line + count_of chosen)) ∷ [];
-}
-lowered_step names (stmt.While test body) = record {
-  count = suc (count_of body + 1);
-  from = λ taken line. core.Loop (leave_unless (condition_expr names test) ∷ in_order body taken (suc line)) ∷ [];
-}
-lowered_step names (stmt.Spin test) = on_line (λ line. core.Loop (leave_unless (condition_expr names test) ∷ []) ∷ [])
-lowered_step names (stmt.For name first end body) = record {
-  count = suc (count_of body + 1);
-  from = λ taken line. for_of line (path_of names name) (unnamed names taken) (unnamed names (suc taken)) (atom_expr names first) (atom_expr names end) (in_order body (suc (suc taken)) (suc line));
-}
-lowered_step names (stmt.Assert test) = on_line (λ line. core.If (condition_expr names test) [] (core.Halt assert_halt 0 line ∷ []) ∷ [])
-lowered_step names (stmt.Halt text) = on_line (λ line. core.Halt halt_halt 0 line ∷ [])
+lowered_step names (stmt.Declare is_var name type first) taken = store_right names (path_of names name) first ∷ []
+lowered_step names (stmt.Assign name value) taken = store_right names (path_of names name) value ∷ []
+lowered_step names (stmt.Print atom) taken = print_of (kind_of_atom names atom) (atom_expr names atom)
+lowered_step names (stmt.PrintText text) taken = put_text (text ++ 10 ∷ []) ∷ []
+lowered_step names (stmt.If test chosen other) taken = core.If (condition_expr names test) (in_order chosen taken) (in_order other taken) ∷ []
+lowered_step names (stmt.While test body) taken = core.Loop (leave_unless (condition_expr names test) ∷ in_order body taken) ∷ []
+lowered_step names (stmt.For name first end body line) taken =
+    for_of line (path_of names name) (unnamed names taken) (unnamed names (suc taken)) (atom_expr names first) (atom_expr names end) (in_order body (suc (suc taken)))
+lowered_step names (stmt.Assert test line) taken = core.If (condition_expr names test) [] (core.Halt assert_halt 0 line ∷ []) ∷ []
+lowered_step names (stmt.Halt text line) taken = core.Halt halt_halt 0 line ∷ []
 
 unfoldable pub lowered : List Declared → Stmt → Lowered
 lowered names s = fold-Stmt Lowered (lowered_step names) s
@@ -149,12 +121,11 @@ unnamed_step (stmt.Declare is_var name type first) = 0
 unnamed_step (stmt.Assign name value) = 0
 unnamed_step (stmt.Print atom) = 0
 unnamed_step (stmt.PrintText text) = 0
-unnamed_step (stmt.If test chosen other) = max (deepest chosen) (deepest_else other)
+unnamed_step (stmt.If test chosen other) = max (deepest chosen) (deepest other)
 unnamed_step (stmt.While test body) = deepest body
-unnamed_step (stmt.Spin test) = 0
-unnamed_step (stmt.For name first end body) = suc (suc (deepest body))
-unnamed_step (stmt.Assert test) = 0
-unnamed_step (stmt.Halt text) = 0
+unnamed_step (stmt.For name first end body line) = suc (suc (deepest body))
+unnamed_step (stmt.Assert test line) = 0
+unnamed_step (stmt.Halt text line) = 0
 
 -- how many variables without names the `for`s in a statement need
 unfoldable pub unnamed_in : Stmt → ℕ
@@ -167,7 +138,7 @@ unnamed_of program = deepest (map unnamed_in program.body)
 -- the statements of `main`
 abbrev pub main_body : Plain → List CoreStmt
 main_body program =
-    in_order (map (lowered (declared program)) program.body) 0 first_body_line
+    in_order (map (lowered (declared program)) program.body) 0
     ++ core.Return (atom_expr (declared program) program.value) ∷ []
 
 -- `NAME.main`

@@ -3,7 +3,7 @@
 -- `println` prints a number in decimal, a truth value as `T` or `F`, or a text, and then a line feed. `Port.get()` is the next byte of
 -- the input, or -1 at its end, and asks for it each time. The bounds of a `for` are computed once. A turn is the call of `main`, or one
 -- asking of a loop whether it goes round, the last one included. What `main` returns is the exit value.
-use Rattle.std.specs.Prelude.{ℕ, zero, suc, ◌+◌, ℤ, pos, negsuc, ◌-ℤ◌, List, [], ◌∷◌, ◌++◌, Bool, true, false, Option, None, Some, Result, Ok, Err, map, codes, if◌then◌else◌}
+use Rattle.std.specs.Prelude.{ℕ, zero, suc, ℤ, pos, negsuc, ◌-ℤ◌, List, [], ◌∷◌, ◌++◌, Bool, true, false, Option, None, Some, Result, Ok, Err, map, codes, if◌then◌else◌}
 use Rattle.std.specs.Fmt.{signed_decimal}
 use Rattle.std.specs.Str.{bytes_eq}
 use Rattle.sl_num.specs.declared.arithmetic.Halt.{Halt}
@@ -16,15 +16,15 @@ use Rattle.sl_run.specs.Run as run
 use Rattle.sl_run.specs.Outcome.{Outcome, whole_run}
 use Rattle.sl_run.specs.Statements.{gotten}
 use Rattle.sl_core.specs.Meaning.{halt_number}
-use Rattle.sl_plain.specs.declared.line.Atom.{Atom}
-use Rattle.sl_plain.specs.declared.line.Atom.TheVariants.{Name, Number, Truth}
-use Rattle.sl_plain.specs.declared.line.Right.{Right}
-use Rattle.sl_plain.specs.declared.line.Right.TheVariants.{Just, Compare, Apply, Get}
-use Rattle.sl_plain.specs.declared.line.Condition.{Condition}
-use Rattle.sl_plain.specs.declared.line.Condition.TheVariants as condition
-use Rattle.sl_plain.specs.declared.tree.Stmt.{Stmt, Stmt-F, fold-Stmt}
-use Rattle.sl_plain.specs.declared.tree.Stmt.TheOpen as stmt
-use Rattle.sl_plain.specs.declared.tree.Plain.{Plain}
+use Rattle.sl_plain.specs.declared.program.Atom.{Atom}
+use Rattle.sl_plain.specs.declared.program.Atom.TheVariants.{Name, Number, Truth}
+use Rattle.sl_plain.specs.declared.program.Right.{Right}
+use Rattle.sl_plain.specs.declared.program.Right.TheVariants.{Just, Compare, Apply, Get}
+use Rattle.sl_plain.specs.declared.program.Condition.{Condition}
+use Rattle.sl_plain.specs.declared.program.Condition.TheVariants as condition
+use Rattle.sl_plain.specs.declared.program.Stmt.{Stmt, Stmt-F, fold-Stmt}
+use Rattle.sl_plain.specs.declared.program.Stmt.TheOpen as stmt
+use Rattle.sl_plain.specs.declared.program.Plain.{Plain}
 use Rattle.sl_plain.specs.Numbers.{z_type}
 
 -- a value: a number, or a truth value
@@ -40,7 +40,7 @@ pub record Variables : Type 0 where
 abbrev pub with_held : List ℕ → Value → Variables → Variables
 with_held name value variables = record { held = λ other. if bytes_eq name other then Some value else variables.held other }
 
--- there is no meaning: a name holds nothing, or holds a value of another type. The program of a plain file never comes to it
+-- there is no meaning: a name holds nothing, or holds a value of another type. A plain program never comes to it
 abbrev pub stuck : {A : Type 0} → Act Variables A
 stuck t variables = Over (Stuck 0) t
 
@@ -83,12 +83,12 @@ abbrev pub result_or_halt : (line : ℕ) → Result ℤ Halt → Act Variables V
 result_or_halt line (Ok number) = pure (Of number)
 result_or_halt line (Err halt) = over (run.Halt (halt_number halt) 0 line)
 
--- the value of a right side on this line
-abbrev pub right_value : (line : ℕ) → Right → Act Variables Value
-right_value line (Just atom) = with_value atom pure
-right_value line (Compare by a b) = compare by a b >>= (λ truth. pure (Is truth))
-right_value line (Apply op a b) = with_number a (λ x. with_number b (λ y. result_or_halt line (applied z_type op x y)))
-right_value line Get = get >>= (λ byte. pure (Of (gotten byte)))
+-- the value of a right side
+abbrev pub right_value : Right → Act Variables Value
+right_value (Just atom) = with_value atom pure
+right_value (Compare by a b) = compare by a b >>= (λ truth. pure (Is truth))
+right_value (Apply op a b line) = with_number a (λ x. with_number b (λ y. result_or_halt line (applied z_type op x y)))
+right_value Get = get >>= (λ byte. pure (Of (gotten byte)))
 
 -- whether a condition holds
 abbrev pub condition_value : Condition → Act Variables Bool
@@ -145,65 +145,29 @@ assert_halt = 1
 abbrev pub halt_halt : ℕ
 halt_halt = 2
 
--- what a statement does whose first line has this number, and how many lines it has
-pub record Lined : Type 0 where
-  pub count : ℕ
-  pub from : ℕ → Act Variables (Unit {0})
+-- statements in order
+abbrev pub in_order : List (Act Variables (Unit {0})) → Act Variables (Unit {0})
+in_order [] = pure tt
+in_order (s ∷ ss) = s >> in_order ss
 
--- statements in order, the first from this line on
-abbrev pub in_order : List Lined → ℕ → Act Variables (Unit {0})
-in_order [] line = pure tt
-in_order (s ∷ ss) line = s.from line >> in_order ss (line + s.count)
+abbrev pub meaning_step : Stmt-F (Act Variables (Unit {0})) → Act Variables (Unit {0})
+meaning_step (stmt.Declare is_var name type first) = right_value first >>= store name
+meaning_step (stmt.Assign name value) = right_value value >>= store name
+meaning_step (stmt.Print atom) = with_value atom (λ value. print_line (printed_value value))
+meaning_step (stmt.PrintText text) = print_line text
+meaning_step (stmt.If test chosen other) = condition_value test >>= (λ so. choose so (in_order chosen) (in_order other))
+meaning_step (stmt.While test body) = while_holds test (in_order body)
+meaning_step (stmt.For name first end body line) = with_number first (λ a. with_number end (λ b. for_numbers line name a (count_until a b) (in_order body)))
+meaning_step (stmt.Assert test line) = condition_value test >>= (λ so. choose so (pure tt) (over (run.Halt assert_halt 0 line)))
+meaning_step (stmt.Halt text line) = over (run.Halt halt_halt 0 line)
 
--- how many lines statements have
-abbrev pub count_of : List Lined → ℕ
-count_of [] = 0
-count_of (s ∷ ss) = s.count + count_of ss
-
--- the statements behind `else`, which stands on this line
-abbrev pub in_else : Option (List Lined) → ℕ → Act Variables (Unit {0})
-in_else None line = pure tt
-in_else (Some block) line = in_order block (suc line)
-
-abbrev pub count_of_else : Option (List Lined) → ℕ
-count_of_else None = 0
-count_of_else (Some block) = suc (count_of block)
-
--- a statement of one line
-abbrev pub on_line : (ℕ → Act Variables (Unit {0})) → Lined
-on_line from = record { count = 1; from = from }
-
-abbrev pub meaning_step : Stmt-F Lined → Lined
-meaning_step (stmt.Declare is_var name type first) = on_line (λ line. right_value line first >>= store name)
-meaning_step (stmt.Assign name value) = on_line (λ line. right_value line value >>= store name)
-meaning_step (stmt.Print atom) = on_line (λ line. with_value atom (λ value. print_line (printed_value value)))
-meaning_step (stmt.PrintText text) = on_line (λ line. print_line text)
-meaning_step (stmt.If test chosen other) = record {
-  count = suc (count_of chosen + count_of_else other + 1);
-  from = λ line. condition_value test >>= (λ so. choose so (in_order chosen (suc line)) (in_else other (suc line + count_of chosen)));
-}
-meaning_step (stmt.While test body) = record {
-  count = suc (count_of body + 1);
-  from = λ line. while_holds test (in_order body (suc line));
-}
-meaning_step (stmt.Spin test) = on_line (λ line. while_holds test (pure tt))
-meaning_step (stmt.For name first end body) = record {
-  count = suc (count_of body + 1);
-  from = λ line. with_number first (λ a. with_number end (λ b. for_numbers line name a (count_until a b) (in_order body (suc line))));
-}
-meaning_step (stmt.Assert test) = on_line (λ line. condition_value test >>= (λ so. choose so (pure tt) (over (run.Halt assert_halt 0 line))))
-meaning_step (stmt.Halt text) = on_line (λ line. over (run.Halt halt_halt 0 line))
-
-unfoldable pub meaning : Stmt → Lined
-meaning s = fold-Stmt Lined meaning_step s
-
--- the line on which a body begins
-abbrev pub first_body_line : ℕ
-first_body_line = 5
+-- what a statement does
+unfoldable pub meaning : Stmt → Act Variables (Unit {0})
+meaning s = fold-Stmt (Act Variables (Unit {0})) meaning_step s
 
 -- `main` is called, and does its statements; what it returns is the exit value
 abbrev pub program : Plain → Act Variables ℤ
-program plain = turn >> in_order (map meaning plain.body) first_body_line >> with_number plain.value pure
+program plain = turn >> in_order (map meaning plain.body) >> with_number plain.value pure
 
 -- nothing is declared
 abbrev pub none_held : Variables

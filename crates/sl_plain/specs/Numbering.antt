@@ -1,15 +1,14 @@
 -- How the variables of a core are found by the names of a plain program.
-use Rattle.std.specs.Prelude.{◌≡◌, ℕ, suc, ◌+◌, List, [], ◌∷◌, ◌++◌, Option, None, Some, length, map, if◌then◌else◌}
+use Rattle.std.specs.Prelude.{◌≡◌, ℕ, suc, List, [], ◌∷◌, ◌++◌, Option, None, Some, length, map, if◌then◌else◌}
 use Rattle.std.specs.Str.{bytes_eq}
 use Rattle.std.specs.Ordering.{nat_cmp}
 use Rattle.std.specs.Cmp.Lexicographic.{slice_cmp}
 use Rattle.std.specs.BTreeMap.{get_by}
-use Rattle.sl_core.specs.declared.tree.CoreStmt.{CoreStmt}
-use Rattle.sl_plain.specs.declared.tree.Stmt.{Stmt}
+use Rattle.sl_plain.specs.declared.program.Stmt.{Stmt}
 use Rattle.sl_plain.specs.declared.lowering.numbers.Variable.{Variable}
 use Rattle.sl_plain.specs.declared.lowering.numbers.Variables.{Variables}
-use Rattle.sl_plain.specs.Plain.{Declared}
-use Rattle.sl_plain.specs.Lowered.{Lowered, lowered, in_order, count_of}
+use Rattle.sl_plain.specs.Program.{Declared}
+use Rattle.sl_plain.specs.Lowered.{Lowered, lowered, in_order}
 
 -- the variable with this name
 abbrev pub variable_named : Variables → List ℕ → Option Variable
@@ -33,10 +32,6 @@ Declares entries old new = (before : List Declared) → AreNumbered before old �
 abbrev pub IsBy : {A : Type 0} → Variables → (List Declared → A) → A → Type 0
 IsBy variables part low = (names : List Declared) → AreNumbered names variables → low ≡ part names
 
--- what was lowered from this line on, in `for`s with so many variables without names
-abbrev pub IsLoweredTo : Lowered → (taken line : ℕ) → List CoreStmt → (behind : ℕ) → Type 0
-IsLoweredTo part taken line stmts behind = (stmts ≡ part.from taken line) × (behind ≡ line + part.count)
-
 -- statements as one
 abbrev pub lowered_all : List Declared → List Stmt → Lowered
-lowered_all names stmts = record { count = count_of (map (lowered names) stmts); from = in_order (map (lowered names) stmts) }
+lowered_all names stmts = in_order (map (lowered names) stmts)

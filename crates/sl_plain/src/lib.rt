@@ -1,13 +1,11 @@
-//! Plain files: their reader, and the core of a program.
+//! Plain trees: their reader, and the core of a program.
 #![tactic(auto)]
 
-mod line;
+mod checking;
 mod lowering;
-mod plain_file;
+mod program;
 mod reading;
-mod tree;
 
-pub use line::{Atom, Condition, Kind, Right};
 pub use lowering::lower;
-pub use plain_file::read_plain;
-pub use tree::{Plain, Stmt};
+pub use program::{Atom, Condition, Kind, Plain, Right, Stmt};
+pub use reading::read_plain;

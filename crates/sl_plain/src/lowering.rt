@@ -10,13 +10,13 @@ ghost use Rattle.std.specs.Prelude.{◌≡◌, ◌+◌, ◌++◌, ℕ, List, IfO
 ghost use Rattle.sl_core.specs.declared.tree.CoreType.TheVariants.{Int};
 ghost use Rattle.sl_core.specs.Meaning.{core_run};
 ghost use Rattle.sl_core.specs.Sound.{IsSound};
-ghost use Rattle.sl_plain.specs.Plain.{IsProgram};
+ghost use Rattle.sl_plain.specs.Program.{IsProgram};
 ghost use Rattle.sl_plain.specs.Means.{plain_run};
 ghost use Rattle.sl_plain.specs.Reach.{IsInReach};
 ghost use Rattle.sl_plain.specs.Numbers.{z_type};
 ghost use Rattle.sl_plain.specs.Lowered.{main_of, start_fun, core_of};
 
-use crate::tree::Plain;
+use crate::program::Plain;
 use declarations::declare_block;
 use expressions::{Z, lower_atom, variable};
 use numbers::Variables;
@@ -27,15 +27,11 @@ use statements::lower_block;
 use std::alloc::Global;
 use unnamed::count_unnamed;
 
-/// The line on which a body begins.
-const FIRST_BODY_LINE: u32 = 5;
-
-/// The core of a plain program. Of a program that a plain file may hold it does what that does, and where its variables and lines
-/// have numbers of 32 bits it is sound.
+/// The core of a plain program. It does what the program does, and is sound.
 pub fn lower(alloc: Global, program: &Plain) -> Result<Core, Mem>
     ensures value { IfOk result (λ core. core ≡ core_of program.now) }
     ensures means { IfOk result (λ core. IsProgram program.now → (input : List ℕ) (turns : ℕ) → core_run core input turns ≡ plain_run program.now input turns) }
-    ensures sound { IfOk result (λ core. IsProgram program.now → IsInReach program.now → IsSound core) }
+    ensures sound { IfOk result (λ core. IsProgram program.now → IsSound core) }
 {
     let mut types = Row::new(alloc);
     types.push(CoreType::Int(z_type()))?;
@@ -60,21 +56,15 @@ fn z_type() -> IntType
     }
 }
 
-/// `NAME.main`
+/// `NAME.main`. Its variables and lines have numbers of 32 bits.
 fn lower_main(alloc: Global, program: &Plain) -> Result<CoreFun, Mem>
-    ensures { IfOk result (λ function. function ≡ main_of program.now) }
+    ensures value { IfOk result (λ function. function ≡ main_of program.now) }
+    ensures reach { IfOk result (λ function. IsInReach program.now) }
 {
     let mut variables = Variables::new(alloc);
     declare_block(alloc, &mut variables, program.body.as_slice())?;
     let count = all_count(&variables, count_unnamed(program.body.as_slice())?)?;
-    let block = lower_block(
-        alloc,
-        &variables,
-        program.body.as_slice(),
-        0,
-        FIRST_BODY_LINE,
-    )?;
-    let mut body = block.stmts;
+    let mut body = lower_block(alloc, &variables, program.body.as_slice(), 0)?;
     body.push(CoreStmt::Return(lower_atom(&variables, &program.value)))?;
     Ok(CoreFun {
         name: main_name(alloc, program.name.as_slice())?,

@@ -1,207 +1,215 @@
-// How one line is read: the word at its front says which form it has, if any.
-ghost use Rattle.std.specs.Prelude.{◌≡◌, [], Some, None, IfOk, IfSome, IfNone, option_and_then};
-ghost use Rattle.sl_plain.specs.LineReading.{between, condition_in, front_of, line_with, declaration_of, cut_kind, print_of, while_of, for_of, counting_of, closing_of, assignment_of};
-ghost use Rattle.sl_plain.specs.PlainReading.{indented_line_of};
+// A plain tree is read: its file, its App and `main`, the statements in it, and then depths, names and types are checked.
+ghost use Rattle.std.specs.Prelude.{◌≡◌, [], ◌∷◌, Some, IfOk, option_and_then};
+ghost use Rattle.std.specs.List.Sorted.{IsNonDecreasing};
+ghost use Rattle.sl_plain.specs.Reading.{is_texts, are_args, are_one_type, body_of, reads_of, is_main, main_of, member_main, app_with, app_of, decl_app, unchecked_of, plain_of};
+ghost use Rattle.sl_tree.specs.declared.tree.DeclKind.{out-DeclKind};
 
-mod atoms;
+mod expressions;
 mod names;
-mod parts;
-mod rights;
-mod words;
+mod statements;
 
-use crate::line::{Condition, Kind, Line, Right};
-use crate::reading::atoms::read_atom;
-pub use crate::reading::names::is_alphanumeric;
-use crate::reading::names::{is_name, quoted_in};
-pub use crate::reading::parts::between;
-use crate::reading::parts::{cut_at_space, cut_word, space_len};
-use crate::reading::rights::{read_condition, read_right};
-use crate::reading::words::{Front, front_of};
-use sl_text::{Mem, Row};
+use crate::checking::passes;
+use crate::program::{Atom, Plain, Stmt};
+use crate::reading::expressions::bytes_of;
+use crate::reading::names::is_app_name;
+use crate::reading::statements::{body_of, is_type};
+use sl_text::{Mem, Row, Text};
+use sl_tree::{Body, Decl, DeclKind, File, Keyword, Param, TypeTerm};
 use std::alloc::Global;
 
-/// The line that these bytes are, behind their spaces.
-pub fn read_indented(alloc: Global, bytes: &[u8]) -> Result<Option<Line>, Mem>
-    ensures { IfOk result (λ found. found ≡ indented_line_of bytes.now) }
+/// The program of a tree, or None where the tree isn't plain. Its line feeds are in order, as those of a file are.
+#[tactic(auto, unfolding(crate::specs::Reading::plain_of))]
+pub fn read_plain(alloc: Global, file: &File) -> Result<Option<Plain>, Mem>
+    requires { IsNonDecreasing file.now.feeds }
+    ensures { IfOk result (λ found. found ≡ plain_of file.now) }
 {
-    let spaces = space_len(bytes);
-    let (word, rest) = cut_word(&bytes[spaces..]);
-    read_behind(alloc, word, rest)
+    let Some(program) = read_unchecked(alloc, file)? else {
+        return Ok(None);
+    };
+    let passes = passes(alloc, &program)?;
+    Ok(passes.then_some(program))
 }
 
-/// A line with this word at its front, and with this behind it.
-fn read_behind(alloc: Global, word: &[u8], rest: &[u8]) -> Result<Option<Line>, Mem>
-    ensures { IfOk result (λ found. found ≡ line_with (front_of word.now) word.now rest.now) }
+/// The program of a tree, before depths, names and types are looked at.
+#[tactic(auto, unfolding(crate::specs::Reading::unchecked_of))]
+fn read_unchecked(alloc: Global, file: &File) -> Result<Option<Plain>, Mem>
+    requires { IsNonDecreasing file.now.feeds }
+    ensures { IfOk result (λ found. found ≡ unchecked_of file.now) }
 {
-    match front_of(word) {
-        Front::Val => read_declaration(alloc, false, rest),
-        Front::Var => read_declaration(alloc, true, rest),
-        Front::Println => read_print(alloc, rest),
-        Front::If => Ok(read_test(alloc, b" (", b") {", rest)?.map(Line::If)),
-        Front::While => read_while(alloc, rest),
-        Front::For => read_for(alloc, rest),
-        Front::Assert => Ok(read_test(alloc, b"(", b")", rest)?.map(Line::Assert)),
-        Front::Halt => read_halt(alloc, rest),
-        Front::Return => read_return(alloc, rest),
-        Front::Brace => Ok(closing_of(rest)),
-        Front::Name => read_assignment(alloc, word, rest),
+    if !file.package.is_empty() || !file.imports.is_empty() {
+        return Ok(None);
+    }
+    match file.decls.as_slice() {
+        [decl] => read_app(alloc, file.feeds.as_slice(), decl),
+        _ => Ok(None),
     }
 }
 
-/// What stands behind `val` or `var`.
-fn read_declaration(alloc: Global, is_var: bool, rest: &[u8]) -> Result<Option<Line>, Mem>
-    ensures { IfOk result (λ found. found ≡ declaration_of is_var rest.now) }
+/// The App that a declaration is.
+fn read_app(alloc: Global, feeds: &[u32], decl: &Decl) -> Result<Option<Plain>, Mem>
+    requires { IsNonDecreasing feeds.now }
+    ensures { IfOk result (λ found. found ≡ decl_app feeds.now (decl.now ∷ [])) }
 {
-    let Some(rest) = between(b" ", b"", rest) else {
-        return Ok(None);
-    };
-    let (name, rest) = cut_word(rest);
-    if !is_name(name) {
+    if !decl.notes.is_empty() {
         return Ok(None);
     }
-    let Some((kind, rest)) = cut_kind(rest) else {
-        return Ok(None);
-    };
-    let Some(first) = read_right(alloc, rest)? else {
-        return Ok(None);
-    };
-    let name = Row::from_slice(alloc, name)?;
-    Ok(Some(Line::Declare(is_var, name, kind, first)))
+    app_of(alloc, feeds, &decl.kind)
 }
 
-/// The type of a declaration, and what stands behind its `=`.
-fn cut_kind(rest: &[u8]) -> Option<(Kind, &[u8])>
-    ensures none { IfNone result (cut_kind rest.now ≡ None) }
-    ensures some { IfSome result (λ cut. cut_kind rest.now ≡ Some (cut.0, cut.1.now)) }
+#[tactic(auto, using(crate::proofs::DeclarationForms::app_rules))]
+fn app_of(alloc: Global, feeds: &[u32], kind: &DeclKind) -> Result<Option<Plain>, Mem>
+    requires { IsNonDecreasing feeds.now }
+    ensures { IfOk result (λ found. found ≡ app_of feeds.now (out-DeclKind kind.now)) }
 {
-    if let Some(first) = between(b": Z = ", b"", rest) {
-        return Some((Kind::Number, first));
-    }
-    let first = between(b": B = ", b"", rest)?;
-    Some((Kind::Truth, first))
-}
-
-/// What stands behind `println`.
-fn read_print(alloc: Global, rest: &[u8]) -> Result<Option<Line>, Mem>
-    ensures { IfOk result (λ found. found ≡ print_of rest.now) }
-{
-    let Some(printed) = between(b"(", b")", rest) else {
-        return Ok(None);
-    };
-    if let Some(atom) = read_atom(alloc, printed)? {
-        return Ok(Some(Line::Print(atom)));
-    }
-    let Some(text) = quoted_in(printed) else {
-        return Ok(None);
-    };
-    Ok(Some(Line::PrintText(Row::from_slice(alloc, text)?)))
-}
-
-/// The condition between this front and this end.
-fn read_test(alloc: Global, front: &[u8], end: &[u8], rest: &[u8]) -> Result<Option<Condition>, Mem>
-    ensures { IfOk result
-        (λ found. found ≡ option_and_then condition_in (between front.now end.now rest.now)) }
-{
-    match between(front, end, rest) {
-        Some(test) => read_condition(alloc, test),
-        None => Ok(None),
+    match kind {
+        DeclKind::Object(name, parents, members) => {
+            app_with(alloc, feeds, name, parents.as_slice(), members)
+        }
+        DeclKind::Enum(..) => Ok(None),
+        DeclKind::Ints(_) => Ok(None),
+        DeclKind::Class(..) => Ok(None),
+        DeclKind::Trait(..) => Ok(None),
+        DeclKind::Method(..) => Ok(None),
+        DeclKind::Global(..) => Ok(None),
     }
 }
 
-/// What stands behind `while`: a condition and the front of a block, or a condition and a block with nothing in it.
-fn read_while(alloc: Global, rest: &[u8]) -> Result<Option<Line>, Mem>
-    ensures { IfOk result (λ found. found ≡ while_of rest.now) }
+/// `object NAME extends App { .. }`
+fn app_with(
+    alloc: Global,
+    feeds: &[u32],
+    name: &Text,
+    parents: &[TypeTerm],
+    members: &Option<Row<Decl>>,
+) -> Result<Option<Plain>, Mem>
+    requires { IsNonDecreasing feeds.now }
+    ensures { IfOk result (λ found. found ≡ app_with feeds.now name.now parents.now members.now) }
 {
-    if let Some(test) = read_test(alloc, b" (", b") {", rest)? {
-        return Ok(Some(Line::While(test)));
-    }
-    Ok(read_test(alloc, b" (", b") {}", rest)?.map(Line::Spin))
-}
-
-/// What stands behind `for`.
-fn read_for(alloc: Global, rest: &[u8]) -> Result<Option<Line>, Mem>
-    ensures { IfOk result (λ found. found ≡ for_of rest.now) }
-{
-    match between(b" (", b") {", rest) {
-        Some(counting) => read_counting(alloc, counting),
-        None => Ok(None),
-    }
-}
-
-/// The name of a `for` and its bounds.
-fn read_counting(alloc: Global, bytes: &[u8]) -> Result<Option<Line>, Mem>
-    ensures { IfOk result (λ found. found ≡ counting_of bytes.now) }
-{
-    let (name, bounds) = cut_word(bytes);
-    if !is_name(name) {
+    if !is_app_name(name.as_str().as_bytes()) || !are_one_type("App", parents) {
         return Ok(None);
     }
-    let Some(bounds) = between(b" <- ", b"", bounds) else {
+    let Some((body, value)) = member_main(alloc, feeds, members)? else {
         return Ok(None);
     };
-    let Some((first, end)) = cut_at_space(bounds) else {
-        return Ok(None);
-    };
-    let Some(end) = between(b"until ", b"", end) else {
-        return Ok(None);
-    };
-    let Some(first) = read_atom(alloc, first)? else {
-        return Ok(None);
-    };
-    let Some(end) = read_atom(alloc, end)? else {
-        return Ok(None);
-    };
-    Ok(Some(Line::For(Row::from_slice(alloc, name)?, first, end)))
+    let name = bytes_of(alloc, name)?;
+    Ok(Some(Plain { name, body, value }))
 }
 
-/// What stands behind `halt`.
-fn read_halt(alloc: Global, rest: &[u8]) -> Result<Option<Line>, Mem>
-    ensures { IfOk result (λ found. found ≡ line_with Front.Halt [] rest.now) }
+/// The one member of an App, which is `main`.
+fn member_main(
+    alloc: Global,
+    feeds: &[u32],
+    members: &Option<Row<Decl>>,
+) -> Result<Option<(Row<Stmt>, Atom)>, Mem>
+    requires { IsNonDecreasing feeds.now }
+    ensures { IfOk result (λ found. found ≡ member_main feeds.now members.now) }
 {
-    let Some(text) = between(b"(", b")", rest) else {
+    let Some(members) = members else {
         return Ok(None);
     };
-    let Some(text) = quoted_in(text) else {
-        return Ok(None);
-    };
-    Ok(Some(Line::Halt(Row::from_slice(alloc, text)?)))
-}
-
-/// What stands behind `return`.
-fn read_return(alloc: Global, rest: &[u8]) -> Result<Option<Line>, Mem>
-    ensures { IfOk result (λ found. found ≡ line_with Front.Return [] rest.now) }
-{
-    let Some(value) = between(b" ", b"", rest) else {
-        return Ok(None);
-    };
-    Ok(read_atom(alloc, value)?.map(Line::Return))
-}
-
-/// A line that begins with a brace.
-fn closing_of(rest: &[u8]) -> Option<Line>
-    ensures { result ≡ closing_of rest.now }
-{
-    if rest == b"}".as_slice() {
-        return Some(Line::Close);
+    match members.as_slice() {
+        [member] => {
+            if !member.notes.is_empty() {
+                return Ok(None);
+            }
+            main_of(alloc, feeds, &member.kind)
+        }
+        _ => Ok(None),
     }
-    if rest == b"} else {".as_slice() {
-        return Some(Line::Else);
-    }
-    None
 }
 
-/// A line that begins with this name.
-fn read_assignment(alloc: Global, name: &[u8], rest: &[u8]) -> Result<Option<Line>, Mem>
-    ensures { IfOk result (λ found. found ≡ assignment_of name.now rest.now) }
+#[tactic(auto, using(crate::proofs::DeclarationForms::main_rules))]
+fn main_of(alloc: Global, feeds: &[u32], kind: &DeclKind) -> Result<Option<(Row<Stmt>, Atom)>, Mem>
+    requires { IsNonDecreasing feeds.now }
+    ensures { IfOk result (λ found. found ≡ main_of feeds.now (out-DeclKind kind.now)) }
 {
-    if !is_name(name) {
-        return Ok(None);
+    match kind {
+        DeclKind::Method(overrides, name, types, params, result, given) => {
+            if !is_main(*overrides, name, types, params, result) {
+                return Ok(None);
+            }
+            read_given(alloc, feeds, given)
+        }
+        DeclKind::Enum(..) => Ok(None),
+        DeclKind::Ints(_) => Ok(None),
+        DeclKind::Class(..) => Ok(None),
+        DeclKind::Trait(..) => Ok(None),
+        DeclKind::Object(..) => Ok(None),
+        DeclKind::Global(..) => Ok(None),
     }
-    let Some(value) = between(b" = ", b"", rest) else {
-        return Ok(None);
-    };
-    let Some(value) = read_right(alloc, value)? else {
-        return Ok(None);
-    };
-    Ok(Some(Line::Assign(Row::from_slice(alloc, name)?, value)))
+}
+
+/// The statements of a body and what it returns.
+fn read_given(
+    alloc: Global,
+    feeds: &[u32],
+    given: &Option<Body>,
+) -> Result<Option<(Row<Stmt>, Atom)>, Mem>
+    requires { IsNonDecreasing feeds.now }
+    ensures { IfOk result (λ found. found ≡ option_and_then body_of (reads_of feeds.now given.now)) }
+{
+    match given {
+        Some(Body::Block(stmts)) => body_of(alloc, feeds, stmts.as_slice()),
+        Some(Body::Value(_)) | None => Ok(None),
+    }
+}
+
+/// Whether a method is `def main(args: ISZ[String]): Z`.
+fn is_main(
+    overrides: bool,
+    name: &Text,
+    types: &Row<Text>,
+    params: &Option<Row<Param>>,
+    of: &TypeTerm,
+) -> bool
+    ensures { result ≡ is_main overrides name.now types.now params.now of.now }
+{
+    !overrides
+        && name.as_str() == "main"
+        && types.is_empty()
+        && have_args(params)
+        && is_type("Z", of)
+}
+
+fn have_args(params: &Option<Row<Param>>) -> bool
+    ensures { result ≡ are_args params.now }
+{
+    match params {
+        Some(params) => are_args(params.as_slice()),
+        None => false,
+    }
+}
+
+/// Whether these parameters are `args: ISZ[String]`.
+fn are_args(params: &[Param]) -> bool
+    ensures { result ≡ are_args (Some params.now) }
+{
+    match params {
+        [param] => {
+            param.keyword == Keyword::Nothing
+                && param.name.as_str() == "args"
+                && is_texts(&param.kind)
+        }
+        _ => false,
+    }
+}
+
+/// Whether a type is `ISZ[String]`.
+fn is_texts(term: &TypeTerm) -> bool
+    ensures { result ≡ is_texts term.now }
+{
+    match term.path.as_slice() {
+        [name] => name.as_str() == "ISZ" && are_one_type("String", term.args.as_slice()),
+        _ => false,
+    }
+}
+
+/// Whether these types are one, which is this name alone.
+fn are_one_type(name: &str, terms: &[TypeTerm]) -> bool
+    ensures { result ≡ are_one_type name.now terms.now }
+{
+    match terms {
+        [term] => is_type(name, term),
+        _ => false,
+    }
 }

@@ -5,10 +5,14 @@ use sl_tool::slang;
 use std::alloc::Global;
 use std::test::Fail;
 
-/// The lines of a plain file before and behind its body.
-const HEAD: &str =
+/// The lines of a plain file before its body.
+pub const HEAD: &str =
     "// #Sireum\nimport org.sireum._\nobject X extends App {\n  def main(args: ISZ[String]): Z = {\n";
 
+/// What stands behind its last statement.
+pub const FOOT: &str = "\n  }\n}\n";
+
+/// The lines behind its body.
 const END: &str = "  }\n}\n";
 
 /// More than any test puts on an output.

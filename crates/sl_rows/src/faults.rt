@@ -82,6 +82,55 @@ fn each_call_of_run_refused(rt: HostRuntime) -> Result<(), Fail> {
     Ok(())
 }
 
+const ACCEPTED: &[u8] = b"accepted\n";
+
+const CHECK: [Fault; 10] = [
+    (CALM, 0, ACCEPTED, b""),
+    ([&[1], NONE, NONE], 73, b"", FOLDER),
+    ([&[1], NONE, &[1]], 73, b"", b""),
+    ([&[2], NONE, NONE], 0, ACCEPTED, b""),
+    ([NONE, &[1], NONE], 75, b"", OUTPUT),
+    ([NONE, &[1], &[1]], 75, b"", b""),
+    ([NONE, &[1], &[2]], 75, b"", OUTPUT),
+    ([NONE, &[2], NONE], 0, ACCEPTED, b""),
+    ([NONE, NONE, &[1]], 0, ACCEPTED, b""),
+    ([&[1], &[1], &[2]], 73, b"", FOLDER),
+];
+
+/// Whether `check` answers as this row says, and the file stays.
+fn check_refused(alloc: Global, source: &[u8], row: &Fault) -> Result<bool, Fail> {
+    let (what, code, out, note) = row;
+    leaves(
+        alloc,
+        &["check", "a.scala"],
+        &[("a.scala", source)],
+        *what,
+        (*code, out, note),
+        &[("a.scala", Some(source))],
+    )
+}
+
+#[test]
+fn each_call_of_check_refused(rt: HostRuntime) -> Result<(), Fail> {
+    let alloc = rt.alloc();
+    let source = app(alloc, BODY)?;
+    for row in &CHECK {
+        assert!(rt; check_refused(alloc, source.as_bytes(), row)?);
+    }
+    Ok(())
+}
+
+#[test]
+fn check_reads_once(rt: HostRuntime) -> Result<(), Fail> {
+    let alloc = rt.alloc();
+    let source = app(alloc, BODY)?;
+    let files: [(&str, &[u8]); 1] = [("a.scala", source.as_bytes())];
+    let accepted = (0, ACCEPTED, b"".as_slice());
+    let failing: Failing = [&[2], NONE, NONE];
+    assert!(rt; stops(alloc, &["check", "a.scala"], &files, failing, accepted, &[])?);
+    Ok(())
+}
+
 /// The line of `emit` on `out` where it wrote this.
 fn line(alloc: Global, written: &[u8]) -> Result<String, Fail> {
     let length = written.len();
@@ -154,12 +203,12 @@ fn each_call_of_emit_refused(rt: HostRuntime) -> Result<(), Fail> {
     Ok(())
 }
 
-/// Files that are named, and the calls of the folder that fail; and the status and the line of `run` and of `emit` on them, where
-/// nothing is written. `a`, `b` and `c` are plain, `empty` breaks L1, and `other` is neither. The last of the calls is one more
+/// Files that are named, and the calls of the folder that fail; and the status and the line of `check`, `run` and `emit` on them,
+/// where nothing is written. `a`, `b` and `c` are plain, `empty` breaks L1, `idle` breaks G5, and `other` is neither. The last of the calls is one more
 /// than is to be made.
 type Read = (&'static [&'static str], &'static [u64], u8, &'static [u8]);
 
-const READS: [Read; 14] = [
+const READS: [Read; 18] = [
     (&["other"], &[2], 77, NOT_BUILT),
     (&["a", "b", "c"], &[4], 77, NOT_BUILT),
     (&["a", "b", "c"], &[1, 2], 73, FOLDER),
@@ -174,16 +223,29 @@ const READS: [Read; 14] = [
     (&["empty", "b", "c"], &[4], 65, b"empty:1:1: L1\n"),
     (&["a", "b", "empty"], &[4], 65, b"empty:1:1: L1\n"),
     (&["empty", "b", "missing"], &[3, 4], 73, FOLDER),
+    (&["idle"], &[2], 65, b"idle:3:25: G5\n"),
+    (&["idle", "empty"], &[3], 65, b"idle:3:25: G5\n"),
+    (&["idle", "empty"], &[2, 3], 73, FOLDER),
+    (
+        &["other", "idle", "missing"],
+        &[4],
+        72,
+        b"no file missing\n",
+    ),
 ];
 
 /// The files of these rows.
-fn read_files(source: &[u8]) -> [(&str, &[u8]); 5] {
+fn read_files(source: &[u8]) -> [(&str, &[u8]); 6] {
     [
         ("a", source),
         ("b", source),
         ("c", source),
         ("empty", b""),
-        ("other", b"// #Sireum\n"),
+        (
+            "idle",
+            b"// #Sireum\nimport org.sireum._\nobject A { def f: Z = { 1 } }",
+        ),
+        ("other", b"// #Sireum\nimport org.sireum._"),
     ]
 }
 
@@ -201,7 +263,7 @@ fn is_told(alloc: Global, source: &[u8], words: &[&str], row: &Read) -> Result<b
             ("b", Some(source)),
             ("c", Some(source)),
             ("empty", Some(b"")),
-            ("other", Some(b"// #Sireum\n")),
+            ("other", Some(b"// #Sireum\nimport org.sireum._")),
             ("q.c", None),
         ],
     )
@@ -238,6 +300,7 @@ fn each_read_refused(rt: HostRuntime) -> Result<(), Fail> {
     let alloc = rt.alloc();
     let source = app(alloc, BODY)?;
     for row in &READS {
+        assert!(rt; read_refused(alloc, source.as_bytes(), &["check"], row)?);
         assert!(rt; read_refused(alloc, source.as_bytes(), &["run"], row)?);
         assert!(rt; read_refused(alloc, source.as_bytes(), &["emit", "-oq"], row)?);
     }
@@ -247,7 +310,11 @@ fn each_read_refused(rt: HostRuntime) -> Result<(), Fail> {
 /// Words that are refused with a line, and that line.
 type Refused = (&'static [&'static str], u8, &'static [u8]);
 
-const REFUSED: [Refused; 7] = [
+const REFUSED: [Refused; 11] = [
+    (&["check"], 64, USAGE),
+    (&["check", "missing"], 72, b"no file missing\n"),
+    (&["check", "empty"], 65, b"empty:1:1: L1\n"),
+    (&["check", "empty", "missing"], 72, b"no file missing\n"),
     (&["run"], 64, USAGE),
     (&["run", "missing"], 72, b"no file missing\n"),
     (&["run", "empty"], 65, b"empty:1:1: L1\n"),

@@ -7,6 +7,8 @@ mod called;
 #[cfg(test)]
 mod faults;
 #[cfg(test)]
+mod files;
+#[cfg(test)]
 mod layout;
 #[cfg(test)]
 mod loops;
@@ -17,10 +19,18 @@ mod names;
 #[cfg(test)]
 mod plain;
 #[cfg(test)]
+mod prefixes;
+#[cfg(test)]
 mod rows;
 #[cfg(test)]
 mod rules;
 #[cfg(test)]
+mod several;
+#[cfg(test)]
 mod spelling;
+#[cfg(test)]
+mod tables;
+#[cfg(test)]
+mod told;
 #[cfg(test)]
 mod words;

@@ -3,8 +3,6 @@ use crate::called::{Answer, CALM, answers, app, reads, runs};
 use std::alloc::Global;
 use std::test::Fail;
 
-const NOT_BUILT: &[u8] = b"not built\n";
-
 const SPENT: &[u8] = b"turns spent\n";
 
 const INPUT: &[u8] = b"input fault\n";
@@ -233,40 +231,6 @@ const READ: [Read; 14] = [
     (ECHO, b"ab", &[4], 0, b"97\n98\n", b""),
 ];
 
-/// Sources near one with loops or input.
-const NEAR: [&str; 30] = [
-    "    while (1) {}\n    return 0\n",
-    "    while (F) {\n      val x: Z = 1\n    }\n    println(x)\n    return 0\n",
-    "    while (F) {\n      val x: Z = 1\n    }\n    val x: Z = 2\n    return 0\n",
-    "    while (x < 1) {\n      val x: Z = 1\n    }\n    return 0\n",
-    "    for (i <- T until 1) {\n    }\n    return 0\n",
-    "    for (i <- 0 until i) {\n    }\n    return 0\n",
-    "    for (i <- 0 until 1) {\n    }\n    for (i <- 0 until 1) {\n    }\n    return 0\n",
-    "    for (i <- 0 until 1) {\n      val x: Z = 1\n    }\n    println(x)\n    return 0\n",
-    "    for (i <- 0 until 1) {\n      val x: Z = 1\n    }\n    val x: Z = 2\n    return 0\n",
-    "    for (i <- 0 until 1) {\n    } else {\n    }\n    return 0\n",
-    "    for (i <- 0 until 1 by 2) {\n    }\n    return 0\n",
-    "    for (i <- 0 until 1 + 1) {\n    }\n    return 0\n",
-    "    for (i: Z <- 0 until 1) {\n    }\n    return 0\n",
-    "    for (val <- 0 until 1) {\n    }\n    return 0\n",
-    "    while (1) {\n    }\n    return 0\n",
-    "    while (F) { }\n    return 0\n",
-    "    while (F) {\n    return 0\n",
-    "    while (F) {\n    } else {\n    }\n    return 0\n",
-    "    for (i <- 0 until T) {\n    }\n    return 0\n",
-    "    for (i <- 0 to 1) {\n    }\n    return 0\n",
-    "    for (i <- i until 1) {\n    }\n    return 0\n",
-    "    for (i <- 0 until 1) {\n    }\n    println(i)\n    return 0\n",
-    "    for (i <- 0 until 1) {\n      i = 2\n    }\n    return 0\n",
-    "    for (i <- 0 until 1) {\n      val i: Z = 2\n    }\n    return 0\n",
-    "    for (i <- 0 until 1) {}\n    return 0\n",
-    "    val i: Z = 0\n    for (i <- 0 until 1) {\n    }\n    return 0\n",
-    "    println(Port.get())\n    return 0\n",
-    "    val b: B = Port.get()\n    return 0\n",
-    "    val b: Z = Port.get() + 1\n    return 0\n",
-    "    val b: Z = Port.get( )\n    return 0\n",
-];
-
 #[test]
 fn loops_run(rt: HostRuntime) -> Result<(), Fail> {
     for (body, code, out, note) in &LOOPS {
@@ -299,14 +263,6 @@ fn turns_bound_a_run(rt: HostRuntime) -> Result<(), Fail> {
 fn input_is_read(rt: HostRuntime) -> Result<(), Fail> {
     for (body, input, failing, code, out, note) in &READ {
         assert!(rt; reads(rt.alloc(), body, input, failing, (*code, out, note))?);
-    }
-    Ok(())
-}
-
-#[test]
-fn what_is_near_a_loop_is_not_built(rt: HostRuntime) -> Result<(), Fail> {
-    for body in &NEAR {
-        assert!(rt; runs(rt.alloc(), body, (77, b"", NOT_BUILT))?);
     }
     Ok(())
 }

@@ -3,8 +3,6 @@ use crate::called::{CALM, NONE, answers, app, runs};
 use std::alloc::Global;
 use std::test::Fail;
 
-const NOT_BUILT: &[u8] = b"not built\n";
-
 const OUTPUT: &[u8] = b"output fault\n";
 
 /// The body of `main`; and the status, what is on `out` and what is on `note` where the file `a.scala` is run.
@@ -357,80 +355,6 @@ const CHOICES: [Row; 16] = [
     ("    val x: Z = 63\n    return x\n", 63, b"", b""),
 ];
 
-/// Sources near a plain one.
-const NEAR: [&str; 70] = [
-    "    val x: Z = 1\n    x = 2\n    return 0\n",
-    "    val x: B = 1\n    return 0\n",
-    "    val x: Z = 1\n    val x: Z = 2\n    return 0\n",
-    "    println(x)\n    return 0\n",
-    "    if (T) {\n      val x: Z = 1\n    }\n    println(x)\n    return 0\n",
-    "    if (T) {\n    return 0\n",
-    "    return T\n",
-    "    val x: Z = 9223372036854775808\n    return 0\n",
-    "    val x: Z = 1 + T\n    return 0\n",
-    "    val x: Z = 1  + 1\n    return 0\n",
-    "    val x: Z = -9223372036854775809\n    return 0\n",
-    "    val x: Z = -0\n    return 0\n",
-    "    val x: Z = 01\n    return 0\n",
-    "    val x: Z = -01\n    return 0\n",
-    "    val x: Z = +1\n    return 0\n",
-    "    val x: Z = T\n    return 0\n",
-    "    val x: Z = 1 < 2\n    return 0\n",
-    "    val x: B = 1 + 2\n    return 0\n",
-    "    val x: Z = T + 1\n    return 0\n",
-    "    val x: B = T == T\n    return 0\n",
-    "    val x: B = 1 === 1\n    return 0\n",
-    "    val x: B = 1 <2\n    return 0\n",
-    "    val x: B = !T\n    return 0\n",
-    "    val x: B = true\n    return 0\n",
-    "    val x: Z = x\n    return 0\n",
-    "    val x = 1\n    return 0\n",
-    "    val x:Z = 1\n    return 0\n",
-    "    val x: Int = 1\n    return 0\n",
-    "    val x: Z = 1;\n    return 0\n",
-    "    val x: Z = 1 \n    return 0\n",
-    "    val x: Z = 1 // a\n    return 0\n",
-    "    var x: Z = 1\n    x = T\n    return 0\n",
-    "    var x: B = T\n    x = 1\n    return 0\n",
-    "    var x: Z = 1\n    x += 1\n    return 0\n",
-    "    x = 1\n    return 0\n",
-    "    if (T == T) {\n    }\n    return 0\n",
-    "    if (1) {\n    }\n    return 0\n",
-    "    if (1 + 1) {\n    }\n    return 0\n",
-    "    if (Port.get()) {\n    }\n    return 0\n",
-    "    if(T) {\n    }\n    return 0\n",
-    "    if (T){\n    }\n    return 0\n",
-    "    if (T) {}\n    return 0\n",
-    "    if (T) {\n    } else {\n    } else {\n    }\n    return 0\n",
-    "    if (T) {\n      val x: Z = 1\n    }\n    val x: Z = 2\n    return 0\n",
-    "    if (T) {\n      val x: Z = 1\n    } else {\n      val x: Z = 2\n    }\n    return 0\n",
-    "    if (T) {\n    } else {\n      val x: Z = 1\n    }\n    val x: Z = 2\n    return 0\n",
-    "    if (F) {\n    } else {\n      val x: Z = 1\n    }\n    println(x)\n    return 0\n",
-    "    if (T) {\n      val x: Z = 1\n    } else {\n      println(x)\n    }\n    return 0\n",
-    "    if (T) {\n      return 0\n    }\n    return 0\n",
-    "    } else {\n    return 0\n",
-    "    }\n    return 0\n",
-    "    assert(1)\n    return 0\n",
-    "    halt(T)\n    return 0\n",
-    "    halt()\n    return 0\n",
-    "    println()\n    return 0\n",
-    "    println (1)\n    return 0\n",
-    "    println(1 + 1)\n    return 0\n",
-    "    println(1, 2)\n    return 0\n",
-    "    print(\"a\")\n    return 0\n",
-    "    println(\"a\"\")\n    return 0\n",
-    "    println(\"\t\")\n    return 0\n",
-    "    println(\"\x7f\")\n    return 0\n",
-    "    println(\"\u{e9}\")\n    return 0\n",
-    "    println(\"01234567890123456789012345678901234567890123456789012345678901234567890123456789012345678901234567890\")\n    return 0\n",
-    "\n    return 0\n",
-    "\treturn 0\n",
-    "    return 0 \n",
-    "    return 0;\n",
-    "    return 1 + 1\n",
-    "    return\n",
-];
-
 #[test]
 fn integers_run(rt: HostRuntime) -> Result<(), Fail> {
     for (body, code, out, note) in &INTEGERS {
@@ -458,30 +382,6 @@ fn operations_are_computed(rt: HostRuntime) -> Result<(), Fail> {
 fn choices_run(rt: HostRuntime) -> Result<(), Fail> {
     for (body, code, out, note) in &CHOICES {
         assert!(rt; runs(rt.alloc(), body, (*code, out, note))?);
-    }
-    Ok(())
-}
-
-/// Whether this body is neither run nor written.
-fn is_not_built(alloc: Global, body: &str) -> Result<bool, Fail> {
-    let source = app(alloc, body)?;
-    let files: [(&str, &[u8]); 1] = [("a.scala", source.as_bytes())];
-    let emit = ["emit", "-o", "q", "a.scala"];
-    Ok(
-        answers(
-            alloc,
-            &["run", "a.scala"],
-            &files,
-            CALM,
-            (77, b"", NOT_BUILT),
-        )? && answers(alloc, &emit, &files, CALM, (77, b"", NOT_BUILT))?,
-    )
-}
-
-#[test]
-fn near_sources_are_not_built(rt: HostRuntime) -> Result<(), Fail> {
-    for body in &NEAR {
-        assert!(rt; is_not_built(rt.alloc(), body)?);
     }
     Ok(())
 }

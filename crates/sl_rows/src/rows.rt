@@ -1,5 +1,5 @@
-// What sources answer to `run` and to `emit`.
-use crate::called::{CALM, answers, app, call, joined, leaves, runs};
+// What small and long sources answer, and how files may be named.
+use crate::called::{CALM, answers, app, call, runs};
 use std::alloc::Global;
 use std::test::Fail;
 
@@ -15,7 +15,7 @@ const ROWS: [Row; 12] = [
     ("    return 10\n", 10, b"", b""),
     ("    return 63\n", 63, b"", b""),
     ("    return 64\n", 69, b"", b"exit value 64\n"),
-    ("    return 07\n", 77, b"", NOT_BUILT),
+    ("    return 07\n", 65, b"", b"a.scala:5:12: L8\n"),
     (
         "    println(\"a\")\n    println(\"\")\n    println(\" ~\")\n    return 1\n",
         1,
@@ -89,137 +89,6 @@ fn long_sources_run_and_are_written(rt: HostRuntime) -> Result<(), Fail> {
     assert_eq!(rt; length, 12120);
     let (code, _) = size(alloc, &["emit", "-o", "q", "a.scala"], source.as_bytes())?;
     assert_eq!(rt; code, 0);
-    Ok(())
-}
-
-/// The first lines of a source, and the line of `run` and of `emit` on it.
-const BROKEN: [(&str, &[u8]); 5] = [
-    ("", b"a.scala:1:1: L1\n"),
-    ("// #Sireu", b"a.scala:1:1: L1\n"),
-    ("\n// #Sireum\n", b"a.scala:1:1: L1\n"),
-    ("//  #Sireum\n", b"a.scala:1:1: L1\n"),
-    ("object X extends App {\n", b"a.scala:1:1: L1\n"),
-];
-
-/// Whether both answer with this line, and nothing is written.
-fn is_broken(alloc: Global, source: &str, note: &[u8]) -> Result<bool, Fail> {
-    let files: [(&str, &[u8]); 1] = [("a.scala", source.as_bytes())];
-    let emit = ["emit", "-o", "q", "a.scala"];
-    Ok(
-        answers(alloc, &["run", "a.scala"], &files, CALM, (65, b"", note))?
-            && leaves(
-                alloc,
-                &emit,
-                &files,
-                CALM,
-                (65, b"", note),
-                &[("q.c", None)],
-            )?,
-    )
-}
-
-#[test]
-fn sources_without_the_mark_are_broken(rt: HostRuntime) -> Result<(), Fail> {
-    for (source, note) in &BROKEN {
-        assert!(rt; is_broken(rt.alloc(), source, note)?);
-    }
-    Ok(())
-}
-
-/// The mark, and blanks up to so many bytes.
-fn padded(alloc: Global, mark: &[u8], length: usize) -> Result<Vec<u8>, Fail> {
-    let mut bytes = Vec::from_slice(alloc, mark)?;
-    bytes.resize(length, b' ')?;
-    Ok(bytes)
-}
-
-/// Files that are named; and the status and the line of `run` and of `emit` on them. `a` and `b` are plain, `other` isn't and
-/// breaks no rule, `short` and `empty` break L1, `most` has 4194304 bytes, `long` has one more, and `both` has that and no mark.
-type Several = (&'static [&'static str], u8, &'static [u8]);
-
-const SEVERAL: [Several; 25] = [
-    (&["most"], 77, NOT_BUILT),
-    (&["long"], 65, b"long:1:1: L7\n"),
-    (&["both"], 65, b"both:1:1: L1\n"),
-    (&["a", "b"], 77, NOT_BUILT),
-    (&["a", "a"], 77, NOT_BUILT),
-    (&["a", "other"], 77, NOT_BUILT),
-    (&["other", "a"], 77, NOT_BUILT),
-    (&["most", "a"], 77, NOT_BUILT),
-    (&["a", "most"], 77, NOT_BUILT),
-    (&["a", "missing"], 72, b"no file missing\n"),
-    (&["missing", "a"], 72, b"no file missing\n"),
-    (&["missing", "gone"], 72, b"no file missing\n"),
-    (&["gone", "missing"], 72, b"no file gone\n"),
-    (&["short", "missing"], 72, b"no file missing\n"),
-    (&["missing", "short"], 72, b"no file missing\n"),
-    (&["short", "long"], 65, b"short:1:1: L1\n"),
-    (&["long", "short"], 65, b"long:1:1: L7\n"),
-    (&["a", "short"], 65, b"short:1:1: L1\n"),
-    (&["short", "a"], 65, b"short:1:1: L1\n"),
-    (&["short", "short"], 65, b"short:1:1: L1\n"),
-    (&["a", "long"], 65, b"long:1:1: L7\n"),
-    (&["long", "both"], 65, b"long:1:1: L7\n"),
-    (&["a", "empty"], 65, b"empty:1:1: L1\n"),
-    (&["other", "b", "empty", "short"], 65, b"empty:1:1: L1\n"),
-    (&["a", "short", "gone", "missing"], 72, b"no file gone\n"),
-];
-
-/// Of these files, those that are named.
-fn named<'a>(
-    alloc: Global,
-    all: &[(&'a str, &'a [u8])],
-    names: &[&'a str],
-) -> Result<Vec<(&'a str, &'a [u8])>, Fail> {
-    let mut files: Vec<(&str, &[u8])> = Vec::new(alloc);
-    for entry in all {
-        if names.contains(&entry.0) {
-            files.push(*entry)?;
-        }
-    }
-    Ok(files)
-}
-
-/// Whether both answer as this row says, where those of these files stand that it names, and nothing is written.
-fn answer_together(alloc: Global, all: &[(&str, &[u8])], row: &Several) -> Result<bool, Fail> {
-    let (names, code, note) = row;
-    let files = named(alloc, all, names)?;
-    let run = joined(alloc, &["run"], names)?;
-    let emit = joined(alloc, &["emit", "-oq"], names)?;
-    let (files, answer) = (files.as_slice(), (*code, b"".as_slice(), *note));
-    Ok(
-        answers(alloc, run.as_slice(), files, CALM, answer)?
-            && leaves(
-                alloc,
-                emit.as_slice(),
-                files,
-                CALM,
-                answer,
-                &[("q.c", None)],
-            )?,
-    )
-}
-
-#[test]
-fn files_answer_together(rt: HostRuntime) -> Result<(), Fail> {
-    let alloc = rt.alloc();
-    let source = app(alloc, "    println(\"hi\")\n    return 5\n")?;
-    let most = padded(alloc, b"// #Sireum\n", 4_194_304)?;
-    let long = padded(alloc, b"// #Sireum\n", 4_194_305)?;
-    let both = padded(alloc, b"", 4_194_305)?;
-    let all: [(&str, &[u8]); 8] = [
-        ("a", source.as_bytes()),
-        ("b", source.as_bytes()),
-        ("other", b"// #Sireum"),
-        ("short", b"// #Sireu"),
-        ("empty", b""),
-        ("most", most.as_slice()),
-        ("long", long.as_slice()),
-        ("both", both.as_slice()),
-    ];
-    for row in &SEVERAL {
-        assert!(rt; answer_together(alloc, &all, row)?);
-    }
     Ok(())
 }
 

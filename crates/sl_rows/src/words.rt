@@ -1,5 +1,5 @@
 // How words are read.
-use crate::called::{CALM, answers, app, joined, leaves, written};
+use crate::called::{Answer, CALM, answers, app, leaves, written};
 use std::alloc::Global;
 use std::test::Fail;
 
@@ -8,7 +8,23 @@ const USAGE: &[u8] = b"usage: check, emit, run, step, stack or sample\n";
 const NOT_BUILT: &[u8] = b"not built\n";
 
 /// Words that have no reading.
-const UNREAD: [&[&str]; 53] = [
+const UNREAD: [&[&str]; 68] = [
+    &["check"],
+    &["check", ""],
+    &["check", "a", ""],
+    &["check", "--"],
+    &["check", "-a"],
+    &["check", "-o", "q", "a"],
+    &["check", "-oq", "a"],
+    &["check", "a", "-o=q"],
+    &["check", "--turns", "5", "a"],
+    &["check", "--turns=5", "a"],
+    &["check", "a", "--turns=5"],
+    &["check", "--report", "a"],
+    &["check", "--string-size=1", "a"],
+    &["Check", "a"],
+    &["checks", "a"],
+    &["--", "check", "a"],
     &["run", "--turns=", "a"],
     &["run", "--turns=-0", "a"],
     &["run", "--turns=+5", "a"],
@@ -32,7 +48,6 @@ const UNREAD: [&[&str]; 53] = [
     &[""],
     &["walk", "a"],
     &["Run", "a"],
-    &["check", "a"],
     &["--help"],
     &["--version"],
     &["--", "run", "a"],
@@ -76,7 +91,17 @@ fn words_without_a_reading_are_refused(rt: HostRuntime) -> Result<(), Fail> {
 }
 
 /// Words, and the files that they name.
-const FILES: [(&[&str], &[&str]); 27] = [
+const FILES: [(&[&str], &[&str]); 37] = [
+    (&["check", "a"], &["a"]),
+    (&["check", "-"], &["-"]),
+    (&["check", "--", "a"], &["a"]),
+    (&["check", "a", "--"], &["a"]),
+    (&["check", "--", "-oq"], &["-oq"]),
+    (&["check", "--", "--turns=5"], &["--turns=5"]),
+    (&["check", "b", "a"], &["b", "a"]),
+    (&["check", "a", "a"], &["a", "a"]),
+    (&["check", "a", "--", "-x", "--"], &["a", "-x", "--"]),
+    (&["check", "a b", "-", "é"], &["a b", "-", "é"]),
     (&["run", "a", "--turns", "5"], &["a"]),
     (&["run", "a", "--turns=1", "b", "--"], &["a", "b"]),
     (&["run", "--turns", "1", "--", "--turns"], &["--turns"]),
@@ -122,13 +147,12 @@ fn name_files(alloc: Global, source: &[u8], words: &[&str], names: &[&str]) -> R
         }
         files.push((*name, source))?;
     }
-    let one = names.len() == 1;
-    let (code, note) = if one {
-        (5, b"".as_slice())
-    } else {
-        (77, NOT_BUILT)
+    let answer: Answer<'_> = match names.len() {
+        1 if words.first() == Some(&"check") => (0, b"accepted\n", b""),
+        1 => (5, b"", b""),
+        _ => (77, b"", NOT_BUILT),
     };
-    Ok(all && answers(alloc, words, files.as_slice(), CALM, (code, b"", note))?)
+    Ok(all && answers(alloc, words, files.as_slice(), CALM, answer)?)
 }
 
 #[test]
@@ -150,7 +174,10 @@ type Many = (
     &'static [u8],
 );
 
-const MANY: [Many; 10] = [
+const MANY: [Many; 13] = [
+    (&["check"], 255, &[], 77, NOT_BUILT),
+    (&["check"], 256, &[], 64, USAGE),
+    (&["check"], 254, &["b"], 72, b"no file b\n"),
     (&["run"], 255, &[], 77, NOT_BUILT),
     (&["run"], 256, &[], 64, USAGE),
     (&["run"], 254, &["b"], 72, b"no file b\n"),

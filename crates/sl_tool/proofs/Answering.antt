@@ -3,42 +3,46 @@ use Rattle.std.proofs.Common.{◌≡◌, ℕ, List, Some, None, ap, ◌∙◌}
 use Rattle.std.specs.Prelude.{Ok, Err}
 use Rattle.sl_outside.specs.Folder.{Contents}
 use Rattle.sl_tool.specs.declared.status.Status.TheVariants as status
-use Rattle.sl_plain.specs.declared.tree.Plain.{Plain}
-use Rattle.sl_text.specs.declared.rule.Rule.{Rule}
-use Rattle.sl_tool.specs.SourceFiles.{SourceFile, sources_of, first_broken_of, program_of}
+use Rattle.sl_text.specs.declared.fault.Broken.{Broken}
+use Rattle.sl_tree.specs.declared.tree.File.{File}
+use Rattle.sl_plain.specs.declared.program.Plain.{Plain}
+use Rattle.sl_tool.specs.SourceFiles.{SourceFile, Verdict, Breaks, Trees, sources_of, program_of}
 use Rattle.sl_words.specs.Words.{Command, files_of}
 use Rattle.sl_words.specs.WordsReading.{command_of}
-use Rattle.sl_tool.specs.Texts.{usage_line, broken_line, no_file_line, not_built_line}
-use Rattle.sl_tool.specs.Answer.{answer_of, answer_to, answer_to_files, answer_to_sources, answer_to_program, answer_to_plain, rejected}
+use Rattle.sl_tool.specs.Texts.{usage_line, no_file_line, not_built_line}
+use Rattle.sl_tool.specs.Answer.{answer_of, answer_to, answer_to_files, answer_to_verdict, answer_to_program, answer_to_plain, rejected, line_of_broken}
 
--- words with no command
-pub answer_usage : (words : List (List ℕ)) (files : Contents) (input : List ℕ) → command_of words ≡ None → answer_of words files input ≡ rejected status.Usage usage_line files input
-unfolding answer_of
-answer_usage words files input none = ap (λ command. answer_to command files input) none
+module _ (words : List (List ℕ)) (files : Contents) (verdict : Verdict) (input : List ℕ) where
+  -- words with no command
+  pub answer_usage : command_of words ≡ None → answer_of words files verdict input ≡ rejected status.Usage usage_line files input
+  unfolding answer_of
+  answer_usage none = ap (λ command. answer_to command files verdict input) none
 
--- a file that isn't there
-pub answer_no_file : (words : List (List ℕ)) (files : Contents) (input : List ℕ) (command : Command) (name : List ℕ) → command_of words ≡ Some command → sources_of files (files_of command) ≡ Err name → answer_of words files input ≡ rejected status.NoFile (no_file_line name) files input
-unfolding answer_of
-answer_no_file words files input command name reads none = ap (λ command. answer_to command files input) reads ∙ ap (λ found. answer_to_files command found files input) none
+  module _ (command : Command) (reads : command_of words ≡ Some command) where
+    -- a file that isn't there
+    pub answer_no_file : (name : List ℕ) → sources_of files (files_of command) ≡ Err name → answer_of words files verdict input ≡ rejected status.NoFile (no_file_line name) files input
+    unfolding answer_of
+    answer_no_file name none = ap (λ command. answer_to command files verdict input) reads ∙ ap (λ found. answer_to_files command found verdict files input) none
 
--- sources of which one breaks a rule
-pub answer_broken : (words : List (List ℕ)) (files : Contents) (input : List ℕ) (command : Command) (sources : List SourceFile) (source : SourceFile) (rule : Rule) → command_of words ≡ Some command → sources_of files (files_of command) ≡ Ok sources → first_broken_of sources ≡ Some (source, rule) → answer_of words files input ≡ rejected status.Broken (broken_line source.name 1 1 rule) files input
-unfolding answer_of
-answer_broken words files input command sources source rule reads found broken =
-    ap (λ command. answer_to command files input) reads ∙ (ap (λ found. answer_to_files command found files input) found ∙ ap (λ broken. answer_to_sources command sources broken files input) broken)
+    module _ (sources : List SourceFile) (there : sources_of files (files_of command) ≡ Ok sources) where
+      -- sources from which this comes
+      answer_found : answer_of words files verdict input ≡ answer_to_verdict command verdict files input
+      unfolding answer_of
+      answer_found = ap (λ command. answer_to command files verdict input) reads ∙ ap (λ found. answer_to_files command found verdict files input) there
 
--- sources that break no rule
-answer_accepted : (words : List (List ℕ)) (files : Contents) (input : List ℕ) (command : Command) (sources : List SourceFile) → command_of words ≡ Some command → sources_of files (files_of command) ≡ Ok sources → first_broken_of sources ≡ None → answer_of words files input ≡ answer_to_program command (program_of sources) files input
-unfolding answer_of
-answer_accepted words files input command sources reads found accepted =
-    ap (λ command. answer_to command files input) reads ∙ (ap (λ found. answer_to_files command found files input) found ∙ ap (λ broken. answer_to_sources command sources broken files input) accepted)
+      -- sources of which one breaks a rule
+      pub answer_broken : (source : SourceFile) (broken : Broken) → verdict ≡ Breaks source broken → answer_of words files verdict input ≡ rejected status.Broken (line_of_broken source broken) files input
+      answer_broken source broken is = answer_found ∙ ap (λ verdict. answer_to_verdict command verdict files input) is
 
--- sources that break no rule and aren't one plain file
-pub answer_not_built : (words : List (List ℕ)) (files : Contents) (input : List ℕ) (command : Command) (sources : List SourceFile) → command_of words ≡ Some command → sources_of files (files_of command) ≡ Ok sources → first_broken_of sources ≡ None → program_of sources ≡ None → answer_of words files input ≡ rejected status.NotBuilt not_built_line files input
-answer_not_built words files input command sources reads found accepted none =
-    answer_accepted words files input command sources reads found accepted ∙ ap (λ program. answer_to_program command program files input) none
+      module _ (trees : List File) (are : verdict ≡ Trees trees) where
+        -- sources that have trees
+        answer_accepted : answer_of words files verdict input ≡ answer_to_program command (program_of trees) files input
+        answer_accepted = answer_found ∙ ap (λ verdict. answer_to_verdict command verdict files input) are
 
--- one plain file that breaks no rule
-pub answer_plain : (words : List (List ℕ)) (files : Contents) (input : List ℕ) (command : Command) (sources : List SourceFile) (program : Plain) → command_of words ≡ Some command → sources_of files (files_of command) ≡ Ok sources → first_broken_of sources ≡ None → program_of sources ≡ Some program → answer_of words files input ≡ answer_to_plain command program files input
-answer_plain words files input command sources program reads found accepted some =
-    answer_accepted words files input command sources reads found accepted ∙ ap (λ program. answer_to_program command program files input) some
+        -- which aren't one plain tree
+        pub answer_not_built : program_of trees ≡ None → answer_of words files verdict input ≡ rejected status.NotBuilt not_built_line files input
+        answer_not_built none = answer_accepted ∙ ap (λ program. answer_to_program command program files input) none
+
+        -- which are one plain tree
+        pub answer_plain : (program : Plain) → program_of trees ≡ Some program → answer_of words files verdict input ≡ answer_to_plain command program files input
+        answer_plain program some = answer_accepted ∙ ap (λ program. answer_to_program command program files input) some

@@ -1,31 +1,27 @@
 -- The files of a command are asked for one after another.
-use Rattle.std.proofs.Common.{◌≡◌, ℕ, zero, suc, ◌+◌, ◌<◌, List, [], ◌∷◌, ◌++◌, length, get_or, take, drop, Option, Some, None, Bool, true, false, ◌≤◌, ◌^◌, refl, sym, ap, ◌∙◌, subst, inl, inr, arith, Bor}
-use Rattle.std.specs.Prelude.{IfSome, Result, Ok, Err, IsErrAnd, nat_lt}
-use Rattle.std.proofs.lemmas.Bool.{ltb-true, ltb-false}
+use Rattle.std.proofs.Common.{◌≡◌, ℕ, zero, suc, ◌+◌, ◌<◌, List, [], ◌∷◌, ◌++◌, length, get_or, take, drop, Option, Some, None, refl, sym, ap, ◌∙◌, subst, inl, inr, Bor}
+use Rattle.std.specs.Prelude.{IfSome, Result, Ok, Err, IsErrAnd}
 use Rattle.std.proofs.lemmas.List.{append_assoc, map-append, take_more}
-use Rattle.std.proofs.lemmas.List.Elements.{All-append, All-cons, All-nil, All-head}
+use Rattle.std.proofs.lemmas.List.Elements.{All-append, All-cons, All-nil}
 use Rattle.sl_outside.specs.declared.folder.Refused.{Refused}
 use Rattle.sl_outside.specs.declared.folder.Refused.TheVariants as refused
 use Rattle.sl_outside.specs.Counts.{one_more}
 use Rattle.sl_outside.specs.Folder.{Contents, FolderCall, ReadCall, GoesOn, ReadGives, FolderState}
-use Rattle.sl_text.specs.declared.rule.Rule.{Rule}
 use Rattle.sl_outside.specs.Source.{SourceState}
 use Rattle.sl_outside.specs.Sink.{SinkState}
 use Rattle.sl_tool.specs.declared.source.SourceFile as found
 use Rattle.c_machine.specs.declared.ending.End.{End}
 use Rattle.sl_tool.specs.declared.stop.Stop.{Stop}
-use Rattle.sl_plain.specs.declared.tree.Plain.{Plain}
-use Rattle.sl_plain.specs.Plain.{IsProgram}
-use Rattle.sl_plain.specs.Reach.{IsInReach}
-use Rattle.sl_plain.proofs.Reached.{in_reach}
-use Rattle.sl_tool.specs.Accepting.{IsAccepted, greatest_length, lexical}
+use Rattle.sl_tree.specs.declared.tree.File.{File}
+use Rattle.sl_plain.specs.declared.program.Plain.{Plain}
+use Rattle.sl_plain.specs.Program.{IsProgram}
+use Rattle.sl_plain.proofs.PlainTrees.{is_program}
 use Rattle.sl_tool.specs.declared.stop.Stop.TheVariants as stop
-use Rattle.sl_tool.specs.SourceFiles.{SourceFile, AreSources, AreAccepted}
+use Rattle.sl_tool.specs.SourceFiles.{SourceFile, AreSources, program_of}
 use Rattle.sl_words.specs.WordsReading.{names_seen}
 use Rattle.sl_tool.specs.Stopping.{stop_of}
 use Rattle.sl_tool.specs.Promise.{more_calls, reads_of, AskedAll, AskedUpTo}
-use Rattle.sl_tool.specs.Parts.{Finds, FindsSources, FindsAccepted, ReadsSources, ReadsProgram, RunsFiles, EmitsFiles, broken_name, sources_seen}
-use Rattle.sl_tool.proofs.Sources.{same_parts, found_program, found_accepted}
+use Rattle.sl_tool.specs.Parts.{Finds, FindsSources, FindsAccepted, ReadsSources, ReadsProgram, RunsFiles, EmitsFiles, ChecksFiles, GivesNone, source_seen, sources_seen}
 use Rattle.sl_tool.proofs.Printing.{cut_at}
 
 -- what a folder tells of its calls goes on with some, and then with more
@@ -117,8 +113,8 @@ pub names_more : (names : List (Bor (List ℕ))) (i : ℕ) (d : Bor (List ℕ)) 
 names_more names i d within = ap names_seen (take_more names i d within) ∙ map-append (λ name. name.now) (take i names) (get_or names i d ∷ [])
 
 -- sources as the code has them, and one more
-pub sources_more : (sources : List found.SourceFile) (source : found.SourceFile) → sources_seen (sources ++ source ∷ []) ≡ sources_seen sources ++ record { name = source.name.now; bytes = source.bytes } ∷ []
-sources_more sources source = map-append (λ source. record { name = source.name.now; bytes = source.bytes }) sources (source ∷ [])
+pub sources_more : (sources : List found.SourceFile) (source : found.SourceFile) → sources_seen (sources ++ source ∷ []) ≡ sources_seen sources ++ source_seen source ∷ []
+sources_more sources source = map-append source_seen sources (source ∷ [])
 
 -- a read that was refused stops the reading
 pub read_refused : (names : List (List ℕ)) (before after : FolderState) (why : Refused) (result : Result (List found.SourceFile) Stop) → IsErrAnd result (λ stop. stop ≡ stop_of why) → (name : List ℕ) → AskedUpTo names name (Err why) before after → ReadsSources names before after result
@@ -136,35 +132,25 @@ pub program_stopped : (names : List (List ℕ)) (before after : FolderState) (re
 program_stopped names before after (Ok program) is asked = absurd is
 program_stopped names before after (Err other) is asked = subst (λ other. ReadsProgram names before after (Err other)) (sym is) (inl asked)
 
--- the source of a name and a rule that were found
-pub broken_found : (found : Option (SourceFile × Rule)) (name : List ℕ) (rule : Rule) → broken_name found ≡ Some (name, rule) → (bytes : List ℕ) × (found ≡ Some (record { name = name; bytes = bytes }, rule))
-broken_found None name rule e = absurd (cc e)
-broken_found (Some found) name rule e =
-    let same = same_parts {A = List ℕ} {B = Rule} (found.0.name, found.1) (name, rule) e in
-    (found.0.bytes, ap (λ n. Some (record { name = n; bytes = found.0.bytes }, found.1)) same.0 ∙ ap (λ r. Some (record { name = name; bytes = found.0.bytes }, r)) same.1)
+-- sources that have no program stop the reading
+pub sources_stopped : (names : List (List ℕ)) (sources : List SourceFile) (before after : FolderState) → FindsSources names sources before after → (why : Stop) → GivesNone sources why → ReadsProgram names before after (Err why)
+sources_stopped names sources before after finds (stop.Broken name rule line column) breaks = record { sources = sources; finds = finds; breaks = breaks }
+sources_stopped names sources before after finds stop.Mem is = inl (asked_all names sources before after finds)
+sources_stopped names sources before after finds (stop.NoFile name) never = absurd never
+sources_stopped names sources before after finds stop.NotBuilt never = absurd never
+sources_stopped names sources before after finds stop.Folder never = absurd never
+sources_stopped names sources before after finds stop.Input never = absurd never
+sources_stopped names sources before after finds stop.Sink never = absurd never
 
--- where no name was found, no source was
-pub none_broken : (found : Option (SourceFile × Rule)) → broken_name found ≡ None → found ≡ None
-none_broken None e = refl
-none_broken (Some found) e = absurd (cc e)
+-- the program of a plain tree is well formed
+pub is_ok : (trees : List File) (program : Plain) → program_of trees ≡ Some program → IsProgram program
+is_ok [] program e = absurd (cc e)
+is_ok (tree ∷ []) program e = is_program tree program e
+is_ok (tree ∷ other ∷ trees) program e = absurd (cc e)
 
--- a program that was read is well formed
+-- so is one that was read
 pub program_is_ok : {names : List (List ℕ)} {program : Plain} {before after : FolderState} → FindsAccepted names (Some program) before after → IsProgram program
-program_is_ok {program = program} finds = let plain = found_program finds.sources program finds.program_is in plain.2.well_formed
-
--- and in reach, since an accepted file has at most 4194304 bytes
-pub program_in_reach : {names : List (List ℕ)} {program : Plain} {before after : FolderState} → FindsAccepted names (Some program) before after → IsInReach program
-program_in_reach {program = program} finds =
-    let plain = found_program finds.sources program finds.program_is in
-    let accepted = found_accepted finds.sources finds.accepted in
-    in_reach plain.0.bytes program plain.2 (short plain.0 (subst AreAccepted plain.1 accepted))
-  where
-    short : (source : SourceFile) → AreAccepted (source ∷ []) → length source.bytes ≤ 2 ^ 30
-    short source all = at (nat_lt greatest_length (length source.bytes)) refl
-      where
-        at : (long : Bool) → nat_lt greatest_length (length source.bytes) ≡ long → length source.bytes ≤ 2 ^ 30
-        at true e = absurd (All-head (λ source. IsAccepted source.bytes) source [] all (lexical 7) 0 (inr (refl, refl, ltb-true greatest_length (length source.bytes) e)))
-        at false e = let most = ltb-false greatest_length (length source.bytes) e in omega arith
+program_is_ok {program = program} finds = let (trees, have, is) = finds.have in is_ok trees program is
 
 -- memory ran out after a program was read, before it was run
 pub run_stopped : (turns : ℕ) (names : List (List ℕ)) (program : Plain) (before after : FolderState) (source : SourceState) (out : SinkState) (result : Result End Stop) → IsErrAnd result (λ other. other ≡ stop.Mem) → FindsAccepted names (Some program) before after → RunsFiles turns names before after source source out out result

@@ -1,5 +1,6 @@
-pub mod Accepted
 pub mod Sources
+pub mod Judged
+pub mod Trees
 pub mod Meant
 pub mod Ran
 pub mod Answering

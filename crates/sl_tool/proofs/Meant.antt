@@ -10,7 +10,7 @@ use Rattle.sl_run.specs.Outcome.{whole_run}
 use Rattle.c_tree.specs.Text.{CText}
 use Rattle.c_write.specs.Lined.{lined}
 use Rattle.c_write.proofs.Relined.{lined_keeps, lined_runs}
-use Rattle.sl_plain.specs.declared.tree.Plain.{Plain}
+use Rattle.sl_plain.specs.declared.program.Plain.{Plain}
 use Rattle.sl_core.specs.declared.tree.Core.{Core}
 use Rattle.sl_frames.specs.Translated.{c_of}
 use Rattle.sl_core.specs.declared.tree.CoreType.TheVariants.{Int}

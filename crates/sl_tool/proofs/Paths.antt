@@ -1,5 +1,5 @@
 -- The promise on each path through a call.
-use Rattle.std.proofs.Common.{◌≡◌, ℕ, ◌+◌, ◌≤◌, ◌<◌, Bool, List, [], ◌∷◌, ◌++◌, Option, Some, None, true, false, refl, sym, ap, ◌∙◌, subst, inl, inr, append-nil, append_assoc, arith}
+use Rattle.std.proofs.Common.{◌≡◌, ℕ, ◌+◌, ◌≤◌, ◌<◌, Bool, List, [], ◌∷◌, ◌++◌, Option, Some, None, true, false, refl, sym, ap, ap₂, ◌∙◌, subst, inl, inr, append-nil, append_assoc, arith}
 use Rattle.std.specs.Prelude.{◌⊎◌, pos, negsuc, nat_le, if◌then◌else◌, IfSome, Result, Ok, Err}
 use Rattle.std.proofs.lemmas.Bool.{leb-true}
 use Rattle.sl_outside.specs.declared.folder.Refused.{Refused}
@@ -20,23 +20,25 @@ use Rattle.sl_tool.specs.declared.stop.Stop.TheVariants as stop
 use Rattle.sl_tool.specs.declared.status.Status.{Status}
 use Rattle.sl_tool.specs.declared.status.Status.TheVariants.{Exit, Usage, Broken, NoFile, FolderFault, InputFault, SinkFault, Memory, NotBuilt}
 use Rattle.sl_tool.specs.declared.status.Status.TheVariants as outcomes
-use Rattle.sl_plain.specs.declared.tree.Plain.{Plain}
+use Rattle.sl_plain.specs.declared.program.Plain.{Plain}
 use Rattle.sl_plain.specs.Means.{plain_run}
 use Rattle.c_machine.specs.declared.ending.End.{End}
 use Rattle.c_machine.specs.declared.ending.End.TheVariants as end
 use Rattle.c_machine.specs.Stepped.{ending_of}
 use Rattle.sl_text.specs.declared.rule.Rule.{Rule}
-use Rattle.sl_tool.specs.SourceFiles.{SourceFile}
+use Rattle.sl_text.specs.declared.fault.Broken.{Broken as BrokenRule}
+use Rattle.sl_tool.specs.SourceFiles.{SourceFile, Verdict, Breaks, Trees, HaveProgram}
 use Rattle.sl_tool.specs.Written.{tree_of, written, IsTreeOf}
-use Rattle.sl_words.specs.Words.{Command, Run, Emit, files_of, Reads, BeginsNoCommand}
+use Rattle.sl_words.specs.Words.{Command, Run, Emit, Check, files_of, Reads, BeginsNoCommand}
 use Rattle.sl_words.specs.WordsReading.{command_of}
-use Rattle.sl_tool.specs.Texts.{emitted_line, usage_line, broken_line, no_file_line, folder_fault_line, input_fault_line, output_fault_line, no_memory_line, not_built_line, turns_spent_line, exit_value_line}
-use Rattle.sl_tool.specs.Answer.{Answer, answer_of, answer_to_plain, ran, rejected, run_status, run_line, c_name}
+use Rattle.sl_tool.specs.Texts.{emitted_line, accepted_line, usage_line, broken_line, no_file_line, folder_fault_line, input_fault_line, output_fault_line, no_memory_line, not_built_line, turns_spent_line, exit_value_line}
+use Rattle.sl_tool.specs.Answer.{Answer, AsksFor, IsVerdict, answer_of, answer_to_plain, ran, rejected, line_of_broken, run_status, run_line, c_name}
 use Rattle.sl_tool.specs.Outside.{Outside, IsTold, NoteRose}
-use Rattle.sl_tool.specs.Promise.{IsUnlessMemory, HaveProgram, HoldsPlain, Did, IsFinal, Finished, WroteC, Emits, EndsWith, AsksForNoFile, AsksForBroken, Cause, HidesNoFault, CountsGrow, GoesNoFurther, AskedAndWrote, ReadBroken, ReadProgram, Stopped, Done, Went, RunDid, EmitDid, Acts, IsLineOf, Noted, Promise}
-use Rattle.sl_tool.specs.Parts.{FindsMissing, FindsBroken, FindsAccepted, StopsFor, Tells, is_folder_fault, IsDefined, RunsFiles, WritesProgram, WritesC, TellsC, EmitsFiles, MakesAndTells, TellsAs, TellsEnd, TellsStop}
+use Rattle.sl_tool.specs.Promise.{IsUnlessMemory, HoldsPlain, Did, IsFinal, Finished, WroteC, Emits, EndsWith, AsksForNoFile, AsksForBroken, Cause, HidesNoFault, CountsGrow, GoesNoFurther, AskedAndWrote, ReadBroken, ReadProgram, Stopped, Done, Went, RunDid, EmitDid, CheckDid, Acts, IsLineOf, Noted, Promise}
+use Rattle.sl_tool.specs.Parts.{FindsMissing, FindsBroken, FindsAccepted, StopsFor, Tells, is_folder_fault, IsDefined, RunsFiles, WritesProgram, WritesC, TellsC, EmitsFiles, TellsAccepted, ChecksFiles, MakesAndTells, TellsAs, TellsEnd, TellsStop}
 use Rattle.sl_words.proofs.Reading.{command_of_reading, reading_of_command, no_reading, begins_none}
-use Rattle.sl_tool.proofs.Sources.{missing_found, sources_found, found_accepted, found_broken, found_program, found_no_program}
+use Rattle.sl_tool.proofs.Sources.{missing_found, sources_found}
+use Rattle.sl_tool.proofs.Judged.{is_verdict}
 use Rattle.sl_tool.proofs.Answering.{answer_usage, answer_broken, answer_no_file, answer_not_built, answer_plain}
 use Rattle.sl_tool.proofs.Noting.{each_some, prefix_whole, prefix_none, gave, gave_prefix, try_calm, tell_ends, tell_calm, tell_grows, try_grows, stays_grown}
 use Rattle.sl_outside.proofs.Printing.{prints_refused}
@@ -45,7 +47,7 @@ use Rattle.sl_tool.proofs.Told.{told_files, files_told, input_of, input_told, st
 use Rattle.sl_tool.proofs.Asking.{asked_all}
 use Rattle.sl_tool.proofs.ToldSources.{Accepted, told_missing, told_broken, told_accepted}
 use Rattle.sl_tool.proofs.Inputs.{asks_left, asks_calm, asks_rose, takes_front}
-use Rattle.sl_tool.proofs.Promising.{answer_suffix, by_answer, Excused, run_yields, Settles, keeps}
+use Rattle.sl_tool.proofs.Promising.{answer_held, answer_suffix, by_answer, Excused, run_yields, Settles, keeps}
 use Rattle.sl_plain.proofs.Rest.{rest_is}
 use Rattle.sl_tool.proofs.Meant.{text_is_c}
 use Rattle.sl_tool.proofs.Writing.{written_told}
@@ -62,9 +64,14 @@ module _ (words : List (List ℕ)) (folder folder' : FolderState) (source source
   abbrev after : Outside
   after = record { folder = folder'; input = source'; out = out'; note = note' }
 
+  -- a fact of the answer, for the verdict on the files
+  abbrev Answers : (files : Contents) (input : List ℕ) → (Answer → Type 0) → Type 0
+  Answers files input P = (verdict : Verdict) → IsVerdict words files verdict → P (answer_of words files verdict input)
+
   -- a line was put on `note` and nothing on `out`, which is what was answered
-  did_reject : (files : Contents) (input : List ℕ) (meant status : Status) (line : List ℕ) → IsTold folder.files files → IsTold source.left input → source' ≡ source → folder'.files ≡ folder.files → answer_of words files input ≡ rejected meant line files input → status ≡ meant → out'.held ≡ out.held → Put line note note' (Ok tt) → Did (answer_of words files input) before after status
-  did_reject files input meant status line is_told is_left unasked same_files e same still put =
+  did_reject : (files : Contents) (input : List ℕ) (meant status : Status) (line : List ℕ) → IsTold folder.files files → IsTold source.left input → source' ≡ source → folder'.files ≡ folder.files → Answers files input (λ answer. answer ≡ rejected meant line files input) → status ≡ meant → out'.held ≡ out.held → Put line note note' (Ok tt) → Answers files input (λ answer. Did answer before after status)
+  did_reject files input meant status line is_told is_left unasked same_files answers same still put verdict is =
+      let e = answers verdict is in
       subst (λ answer. Did answer before after status) (sym e)
       (record {
         same_status = same;
@@ -75,16 +82,17 @@ module _ (words : List (List ℕ)) (folder folder' : FolderState) (source source
       })
 
   -- nothing was taken of the input
-  takes_nothing : (files : Contents) (input : List ℕ) → IsTold source.left input → source' ≡ source → IfSome source.left (λ _. (taken : List ℕ) × (more : List ℕ) × (input ≡ taken ++ more ++ (answer_of words files input).rest) × (source'.left ≡ Some (more ++ (answer_of words files input).rest)))
-  takes_nothing files input is_left unasked =
-      let (more, whole) = answer_suffix words files input in
+  takes_nothing : (files : Contents) (input : List ℕ) → IsTold source.left input → source' ≡ source → (verdict : Verdict)
+      → IfSome source.left (λ _. (taken : List ℕ) × (more : List ℕ) × (input ≡ taken ++ more ++ (answer_of words files verdict input).rest) × (source'.left ≡ Some (more ++ (answer_of words files verdict input).rest)))
+  takes_nothing files input is_left unasked verdict =
+      let (more, whole) = answer_suffix words files verdict input in
       each_some source.left _ (λ held e. ([], more, whole, ap (λ s. s.left) unasked ∙ (left_told source.left input is_left e ∙ ap Some whole)))
 
   -- nothing was put on `out`, and nothing was asked
-  stands_still : (files : Contents) (input : List ℕ) → IsTold source.left input → source' ≡ source → out'.held ≡ out.held → GoesNoFurther (answer_of words files input) input before after
-  stands_still files input is_left unasked still = record {
-    out = each_some out.held _ (λ held e. ([], prefix_none (answer_of words files input).out, still ∙ (e ∙ ap Some (sym (append-nil held)))));
-    taken = takes_nothing files input is_left unasked;
+  stands_still : (files : Contents) (input : List ℕ) → IsTold source.left input → source' ≡ source → out'.held ≡ out.held → Answers files input (λ answer. GoesNoFurther answer input before after)
+  stands_still files input is_left unasked still verdict is = record {
+    out = each_some out.held _ (λ held e. ([], prefix_none (answer_of words files verdict input).out, still ∙ (e ∙ ap Some (sym (append-nil held)))));
+    taken = takes_nothing files input is_left unasked verdict;
   }
 
   -- no count but perhaps that of `note` rose
@@ -145,9 +153,13 @@ module _ (words : List (List ℕ)) (folder folder' : FolderState) (source source
   no_call idle = subst (λ f. HasCause false folder.faults f.faults) (sym idle) (record { rose = λ never. absurd (cc never); by_one = omega arith; stayed = λ _. refl; no_lower = omega arith })
 
   -- where a line was told whole, the call did what was answered
-  finished_told : (files : Contents) (input : List ℕ) (meant status : Status) (line : List ℕ) → (Put line note note' (Ok tt) → Did (answer_of words files input) before after meant) → Tells line meant note note' status → Finished words files input before after status
-  finished_told files input meant status line did (inl h) = λ _. subst (λ s. Did (answer_of words files input) before after s) (sym h.1) (did h.0)
-  finished_told files input meant status line did (inr (m, refused, tried, e)) = λ final. absurd (subst IsFinal e final)
+  finished_told : (files : Contents) (input : List ℕ) (meant status : Status) (line : List ℕ) → (Put line note note' (Ok tt) → Answers files input (λ answer. Did answer before after meant)) → Tells line meant note note' status → Finished words files input before after status
+  finished_told files input meant status line did (inl h) verdict is final = subst (λ s. Did (answer_of words files verdict input) before after s) (sym h.1) (did h.0 verdict is)
+  finished_told files input meant status line did (inr (m, refused, tried, e)) verdict is final = absurd (subst IsFinal e final)
+
+  -- what settles one answer settles this one
+  settles_as : (files : Contents) (input : List ℕ) (meant status : Status) → Answers files input (λ answer. answer.status ≡ meant) → Settles before after meant status → Answers files input (λ answer. Settles before after answer.status status)
+  settles_as files input meant status e settles verdict is = subst (λ meant. Settles before after meant status) (sym (e verdict is)) settles
 
   -- a status that is no exit value and no fault of an output says nothing of C that was written
   nothing_emitted : (files : Contents) (status : Status) → ((value : ℕ) → ¬ (status ≡ Exit value)) → ¬ (status ≡ SinkFault) → Emits words files before after status
@@ -175,7 +187,7 @@ module _ (words : List (List ℕ)) (folder folder' : FolderState) (source source
       let still : out'.held ≡ out.held = ap (λ s. s.held) same in
       let sink : out'.faults ≡ out.faults = ap (λ s. s.faults) same in
       let ends = tell_ends Usage status usage_line note note' tells in
-      let e = answer_usage words files input none in
+      let e : Answers files input (λ answer. answer ≡ rejected Usage usage_line files input) = λ verdict is. answer_usage words files verdict input none in
       let unread = no_reading words none in
       let did = λ (s : Status) (is : s ≡ Usage) (put : Put usage_line note note' (Ok tt)). did_reject files input Usage s usage_line is_told is_left unasked same_files e is still put in (
         files,
@@ -183,11 +195,11 @@ module _ (words : List (List ℕ)) (folder folder' : FolderState) (source source
         is_told,
         is_left,
         keeps words files input before after status
-            (λ calm. let whole = tell_calm Usage status usage_line note note' tells calm.note in inl (did status whole.1 whole.0))
+            (λ verdict is calm. let whole = tell_calm Usage status usage_line note note' tells calm.note in inl (did status whole.1 whole.0 verdict is))
             (finished_told files input Usage status usage_line (did Usage refl) tells)
             (λ name names reads. absurd (unread (Emit name names) reads))
             (by_end (λ s. Cause words files input before after s) Usage status ends unread inr)
-            (subst (λ meant. Settles before after meant status) (sym (ap (λ answer. answer.status) e))
+            (settles_as files input Usage status (λ verdict is. ap (λ answer. answer.status) (e verdict is))
             (by_end (λ s. Settles before after Usage s) Usage status ends (inl (inl refl)) inr))
             (λ _. usage_or_fault status ends)
             (hides_note status calm_folder (dry_of unasked) sink (note_told Usage status ends))
@@ -197,23 +209,24 @@ module _ (words : List (List ℕ)) (folder folder' : FolderState) (source source
               none = λ _. (idle, unasked, same);
               run = λ turns names reads. absurd (unread (Run turns names) reads);
               emit = λ name names reads. absurd (unread (Emit name names) reads);
+              check = λ names reads. absurd (unread (Check names) reads);
             })
             (noted_told files input Usage status usage_line (unread, refl) (λ put. put) tells),
       )
 
   -- memory ran out, with no fault of the input and of `out`
-  memory_at : ¬ BeginsNoCommand words → (files : Contents) (input : List ℕ) → IsTold folder.files files → IsTold source.left input → source'.faults ≡ source.faults → out'.faults ≡ out.faults → GoesNoFurther (answer_of words files input) input before after → HasCause false folder.faults folder'.faults → Acts words files input (answer_of words files input) before after Memory → Tried no_memory_line note note' → Promise words before after Memory
+  memory_at : ¬ BeginsNoCommand words → (files : Contents) (input : List ℕ) → IsTold folder.files files → IsTold source.left input → source'.faults ≡ source.faults → out'.faults ≡ out.faults → Answers files input (λ answer. GoesNoFurther answer input before after) → HasCause false folder.faults folder'.faults → Acts words files input before after Memory → Tried no_memory_line note note' → Promise words before after Memory
   memory_at begins files input is_told is_left dry sink stands cause acts tried = (
     files,
     input,
     is_told,
     is_left,
     keeps words files input before after Memory
-        (λ calm. inr refl)
-        (λ final. absurd final)
+        (λ verdict is calm. inr refl)
+        (λ verdict is final. absurd final)
         (nothing_emitted files Memory (λ value e. absurd (cc e)) (λ e. absurd (cc e)))
         tt
-        (inl (inr refl))
+        (λ verdict is. inl (inr refl))
         (λ none. absurd (begins none))
         (hides_note Memory (cause.stayed refl) dry sink (λ lt. inl (inr refl)))
         (grows cause (stays_grown source.faults source'.faults dry) (stays_grown out.faults out'.faults sink) (try_grows _ note note' tried))
@@ -235,6 +248,7 @@ module _ (words : List (List ℕ)) (folder folder' : FolderState) (source source
         none = λ _. (idle, unasked, same);
         run = λ turns names reads. inl (inl idle, same, unasked);
         emit = λ name names reads. (inl (inl idle, same), unasked);
+        check = λ names reads. (inl (inl idle, same), unasked);
       }) tried)
 
   module _ (command : Command) (is_read : command_of words ≡ Some command) where
@@ -246,47 +260,51 @@ module _ (words : List (List ℕ)) (folder folder' : FolderState) (source source
     begins none = let h : None ≡ Some command = sym (begins_none words none) ∙ is_read in absurd (cc h)
 
     -- what a command did to the folder, to the input and to `out`
-    abbrev Does : Contents → List ℕ → Answer → Command → Status → Type 0
-    Does files input answer (Run turns names) status = RunDid turns names files input before after status
-    Does files input answer (Emit name names) status = EmitDid name names files answer before after status × (source' ≡ source)
+    abbrev Does : Contents → List ℕ → Command → Status → Type 0
+    Does files input (Run turns names) status = RunDid turns names files input before after status
+    Does files input (Emit name names) status = EmitDid name names files before after status × (source' ≡ source)
+    Does files input (Check names) status = CheckDid names files before after status × (source' ≡ source)
 
     -- the words ask for nothing else
     same_command : (other : Command) → Reads words other → command ≡ other
     same_command other h = let e : Some command ≡ Some other = sym is_read ∙ command_of_reading words other h in cc
 
-    acts : (files : Contents) (input : List ℕ) (answer : Answer) (status : Status) → Does files input answer command status → Acts words files input answer before after status
-    acts files input answer status h = record {
+    acts : (files : Contents) (input : List ℕ) (status : Status) → Does files input command status → Acts words files input before after status
+    acts files input status h = record {
       none = λ unread. absurd (unread command reads);
-      run = λ turns names asks. subst (λ c. Does files input answer c status) (same_command (Run turns names) asks) h;
-      emit = λ name names asks. subst (λ c. Does files input answer c status) (same_command (Emit name names) asks) h;
+      run = λ turns names asks. subst (λ c. Does files input c status) (same_command (Run turns names) asks) h;
+      emit = λ name names asks. subst (λ c. Does files input c status) (same_command (Emit name names) asks) h;
+      check = λ names asks. subst (λ c. Does files input c status) (same_command (Check names) asks) h;
     }
 
-    -- a command that stopped before it ran or wrote anything
-    does_stopped : (files : Contents) (input : List ℕ) (answer : Answer) (command : Command) (status : Status) → Stopped (files_of command) files before after status → source' ≡ source → out' ≡ out → Does files input answer command status
-    does_stopped files input answer (Run turns names) status stopped unasked same = inl (stopped, same, unasked)
-    does_stopped files input answer (Emit name names) status stopped unasked same = (inl (stopped, same), unasked)
+    -- a command that stopped before it ran, wrote or told anything
+    does_stopped : (files : Contents) (input : List ℕ) (command : Command) (status : Status) → Stopped (files_of command) files before after status → source' ≡ source → out' ≡ out → Does files input command status
+    does_stopped files input (Run turns names) status stopped unasked same = inl (stopped, same, unasked)
+    does_stopped files input (Emit name names) status stopped unasked same = (inl (stopped, same), unasked)
+    does_stopped files input (Check names) status stopped unasked same = (inl (stopped, same), unasked)
 
     -- a fault of the folder excuses whatever would have been answered
-    excused : (files : Contents) (input : List ℕ) → Rose folder.faults folder'.faults → Excused before after (answer_of words files input).status
-    excused files input rose =
-        by_answer words files input (λ answer. Excused before after answer.status)
+    excused : (files : Contents) (input : List ℕ) → Rose folder.faults folder'.faults → Answers files input (λ answer. Excused before after answer.status)
+    excused files input rose verdict is =
+        by_answer words files verdict input (λ answer. Excused before after answer.status)
         (λ none. let some : None ≡ Some command = sym none ∙ is_read in absurd (cc some))
         (λ _. inl rose) (λ _ _. inl rose) rose at
       where
         at : (other : Command) (program : Plain) → Excused before after (answer_to_plain other program files input).status
         at (Run turns names) program = run_yields before after (plain_run program input turns).ending (inl rose)
         at (Emit name names) program = inl rose
+        at (Check names) program = inl rose
 
     -- memory ran out before anything was put or asked
-    memory_promise : (files : Contents) → IsTold folder.files files → source' ≡ source → out' ≡ out → HasCause false folder.faults folder'.faults → Does files (input_of source.left) (answer_of words files (input_of source.left)) command Memory → Tried no_memory_line note note' → Promise words before after Memory
+    memory_promise : (files : Contents) → IsTold folder.files files → source' ≡ source → out' ≡ out → HasCause false folder.faults folder'.faults → Does files (input_of source.left) command Memory → Tried no_memory_line note note' → Promise words before after Memory
     memory_promise files is_told unasked same cause does tried =
         let input = input_of source.left in
         let is_left = input_told source.left in
         memory_at begins files input is_told is_left (dry_of unasked) (ap (λ s. s.faults) same) (stands_still files input is_left unasked (ap (λ s. s.held) same)) cause
-        (acts files input (answer_of words files input) Memory does) tried
+        (acts files input Memory does) tried
 
     -- the folder failed
-    folder_promise : (files : Contents) → IsTold folder.files files → source' ≡ source → out' ≡ out → HasCause true folder.faults folder'.faults → Does files (input_of source.left) (answer_of words files (input_of source.left)) command FolderFault → Tried folder_fault_line note note' → Promise words before after FolderFault
+    folder_promise : (files : Contents) → IsTold folder.files files → source' ≡ source → out' ≡ out → HasCause true folder.faults folder'.faults → Does files (input_of source.left) command FolderFault → Tried folder_fault_line note note' → Promise words before after FolderFault
     folder_promise files is_told unasked same cause does tried =
         let input = input_of source.left in
         let is_left = input_told source.left in
@@ -297,16 +315,16 @@ module _ (words : List (List ℕ)) (folder folder' : FolderState) (source source
           is_told,
           is_left,
           keeps words files input before after FolderFault
-              (λ calm. absurd (calm.folder rose))
-              (λ final. absurd final)
+              (λ verdict is calm. absurd (calm.folder rose))
+              (λ verdict is final. absurd final)
               (nothing_emitted files FolderFault (λ value e. absurd (cc e)) (λ e. absurd (cc e)))
               rose
-              (inr (excused files input rose))
+              (λ verdict is. inr (excused files input rose verdict is))
               (λ none. absurd (begins none))
               (record { folder = λ _. refl; input = λ calm _. absurd (calm rose); out = λ calm _ _. absurd (calm rose); note = λ calm _ _. absurd (calm rose) })
               (grows cause (asks_none unasked) (stays_grown out.faults out'.faults sink) (try_grows _ note note' tried))
               (stands_still files input is_left unasked (ap (λ s. s.held) same))
-              (acts files input (answer_of words files input) FolderFault does)
+              (acts files input FolderFault does)
               tried,
         )
 
@@ -317,7 +335,10 @@ module _ (words : List (List ℕ)) (folder folder' : FolderState) (source source
         let files = told.files in
         let input = input_of source.left in
         let is_left = input_told source.left in
-        let e = answer_not_built words files input command told.sources is_read (sources_found files (files_of command) told.sources told.are) told.accepted told.program_is in
+        let (trees, have, none) = told.have in
+        let e : Answers files input (λ answer. answer ≡ rejected NotBuilt not_built_line files input) =
+        λ verdict is. answer_not_built words files verdict input command is_read told.sources (sources_found files (files_of command) told.sources told.are) trees
+        (is_verdict words files told.sources (Trees trees) verdict (command, reads, told.are) have is) none in
         let still : out'.held ≡ out.held = ap (λ s. s.held) same in
         let sink : out'.faults ≡ out.faults = ap (λ s. s.faults) same in
         let asked = asked_all (files_of command) finds.sources folder folder' finds.finds in (
@@ -326,25 +347,24 @@ module _ (words : List (List ℕ)) (folder folder' : FolderState) (source source
           told.is_told,
           is_left,
           keeps words files input before after NotBuilt
-              (λ calm. inl (did_reject files input NotBuilt NotBuilt not_built_line told.is_told is_left unasked asked.unchanged e refl still (try_calm not_built_line note note' tried calm.note)))
-              (λ final. absurd final)
+              (λ verdict is calm. inl (did_reject files input NotBuilt NotBuilt not_built_line told.is_told is_left unasked asked.unchanged e refl still (try_calm not_built_line note note' tried calm.note) verdict is))
+              (λ verdict is final. absurd final)
               (nothing_emitted files NotBuilt (λ value e. absurd (cc e)) (λ e. absurd (cc e)))
-              (told.sources, (command, reads, told.are), found_accepted told.sources told.accepted, found_no_program told.sources told.program_is)
-              (subst (λ meant. Settles before after meant NotBuilt) (sym (ap (λ answer. answer.status) e)) (inl (inl refl)))
+              (told.sources, (command, reads, told.are), told.have)
+              (settles_as files input NotBuilt NotBuilt (λ verdict is. ap (λ answer. answer.status) (e verdict is)) (inl (inl refl)))
               (λ none. absurd (begins none))
               (hides_note NotBuilt (cause.stayed refl) (dry_of unasked) sink (λ lt. inr refl))
               (grows cause (asks_none unasked) (stays_grown out.faults out'.faults sink) (try_grows _ note note' tried))
               (stands_still files input is_left unasked still)
-              (acts files input (answer_of words files input) NotBuilt (does_stopped files input (answer_of words files input) command NotBuilt (asked, found_accepted finds.sources finds.accepted, found_no_program finds.sources finds.program_is) unasked same))
+              (acts files input NotBuilt (does_stopped files input command NotBuilt (asked, finds.have) unasked same))
               tried,
         )
 
     -- nothing was put on `out`, and the line of a status was told on `note`, which is what is answered
-    told_promise : (files : Contents) (meant status : Status) (line : List ℕ) → IsTold folder.files files → answer_of words files (input_of source.left) ≡ rejected meant line files (input_of source.left) → IsLineOf words files (input_of source.left) meant line → (Put line note note' (Ok tt) → Noted words files (input_of source.left) before after meant) → Cause words files (input_of source.left) before after meant → (Rose note.faults note'.faults → Excused before after meant) → Emits words files before after meant → Stopped (files_of command) files before after meant → (Rose note.faults note'.faults → Stopped (files_of command) files before after SinkFault) → folder'.files ≡ folder.files → source' ≡ source → out' ≡ out → HasCause false folder.faults folder'.faults → Tells line meant note note' status → Promise words before after status
+    told_promise : (files : Contents) (meant status : Status) (line : List ℕ) → IsTold folder.files files → Answers files (input_of source.left) (λ answer. answer ≡ rejected meant line files (input_of source.left)) → IsLineOf words files (input_of source.left) meant line → (Put line note note' (Ok tt) → Noted words files (input_of source.left) before after meant) → Cause words files (input_of source.left) before after meant → (Rose note.faults note'.faults → Excused before after meant) → Emits words files before after meant → Stopped (files_of command) files before after meant → (Rose note.faults note'.faults → Stopped (files_of command) files before after SinkFault) → folder'.files ≡ folder.files → source' ≡ source → out' ≡ out → HasCause false folder.faults folder'.faults → Tells line meant note note' status → Promise words before after status
     told_promise files meant status line is_told e is_line noted caused excuse emits stopped refused unchanged unasked same cause tells =
         let input = input_of source.left in
         let is_left = input_told source.left in
-        let answer = answer_of words files input in
         let ends = tell_ends meant status line note note' tells in
         let still : out'.held ≡ out.held = ap (λ s. s.held) same in
         let sink : out'.faults ≡ out.faults = ap (λ s. s.faults) same in
@@ -354,17 +374,17 @@ module _ (words : List (List ℕ)) (folder folder' : FolderState) (source source
           is_told,
           is_left,
           keeps words files input before after status
-              (λ calm. let whole = tell_calm meant status line note note' tells calm.note in inl (did status whole.1 whole.0))
+              (λ verdict is calm. let whole = tell_calm meant status line note note' tells calm.note in inl (did status whole.1 whole.0 verdict is))
               (finished_told files input meant status line (did meant refl) tells)
               (by_end (λ s. Emits words files before after s) meant status ends emits (λ _. calm_emitted files sink))
               (by_end (λ s. Cause words files input before after s) meant status ends caused inr)
-              (subst (λ other. Settles before after other status) (sym (ap (λ answer. answer.status) e))
+              (settles_as files input meant status (λ verdict is. ap (λ answer. answer.status) (e verdict is))
               (by_end (λ s. Settles before after meant s) meant status ends (inl (inl refl)) (λ rose. inr (excuse rose))))
               (λ none. absurd (begins none))
               (hides_note status (cause.stayed refl) (dry_of unasked) sink (note_told meant status ends))
               (grows cause (asks_none unasked) (stays_grown out.faults out'.faults sink) (tell_grows meant status line note note' tells))
               (stands_still files input is_left unasked still)
-              (acts files input answer status (does_stopped files input answer command status (by_end (λ s. Stopped (files_of command) files before after s) meant status ends stopped refused) unasked same))
+              (acts files input status (does_stopped files input command status (by_end (λ s. Stopped (files_of command) files before after s) meant status ends stopped refused) unasked same))
               (noted_told files input meant status line is_line noted tells),
         )
 
@@ -377,24 +397,29 @@ module _ (words : List (List ℕ)) (folder folder' : FolderState) (source source
         let line = no_file_line name in
         let asks : AsksForNoFile words files name = (command, reads, told.missing) in
         let is_line : IsLineOf words files input NoFile line = (name, asks, refl) in
-        told_promise files NoFile status line told.is_told (answer_no_file words files input command name is_read (missing_found files (files_of command) name told.missing)) is_line (λ put. (line, is_line, put))
+        told_promise files NoFile status line told.is_told (λ verdict is. answer_no_file words files verdict input command is_read name (missing_found files (files_of command) name told.missing)) is_line (λ put. (line, is_line, put))
         (name, asks) inr (nothing_emitted files NoFile (λ value e. absurd (cc e)) (λ e. absurd (cc e)))
         (name, told.missing, finds.asked) (λ rose. (rose, inr (name, told.missing, finds.asked))) finds.asked.unchanged unasked same cause tells
 
     -- a source breaks a rule
-    broken_promise : (name : List ℕ) (rule : Rule) (status : Status) → FindsBroken (files_of command) name rule folder folder' → source' ≡ source → out' ≡ out → HasCause false folder.faults folder'.faults → Tells (broken_line name 1 1 rule) Broken note note' status → Promise words before after status
-    broken_promise name rule status finds unasked same cause tells =
+    broken_promise : (name : List ℕ) (rule : Rule) (row column : ℕ) (status : Status) → FindsBroken (files_of command) name rule row column folder folder' → source' ≡ source → out' ≡ out → HasCause false folder.faults folder'.faults → Tells (broken_line name row column rule) Broken note note' status → Promise words before after status
+    broken_promise name rule row column status finds unasked same cause tells =
         let told = told_broken finds in
         let files = told.files in
         let input = input_of source.left in
-        let line = broken_line name 1 1 rule in
-        let broken : SourceFile = record { name = name; bytes = finds.bytes } in
-        let asks : AsksForBroken words files broken rule 0 = (told.sources, (command, reads, told.are), found_broken told.sources broken rule told.broken) in
-        let is_line : IsLineOf words files input Broken line = (broken, rule, 0, asks, refl) in
+        let line = broken_line name row column rule in
+        let it : SourceFile = record { name = name; bytes = finds.breaks.bytes } in
+        let broken : BrokenRule = record { rule = rule; span = finds.breaks.span } in
+        let line_is : line ≡ line_of_broken it broken = ap₂ (λ row column. broken_line name row column rule) finds.breaks.stands.line_is finds.breaks.stands.column_is in
+        let asks : AsksForBroken words files it broken = (told.sources, (command, reads, told.are), told.first) in
+        let is_line : IsLineOf words files input Broken line = (it, broken, asks, line_is) in
         let read : ReadBroken (files_of command) files folder folder' =
-        (asked_all (files_of command) finds.sources folder folder' finds.finds, (told.sources, broken, rule, 0, told.are, found_broken told.sources broken rule told.broken, found_broken finds.sources broken rule finds.broken)) in
-        told_promise files Broken status line told.is_told (answer_broken words files input command told.sources broken rule is_read (sources_found files (files_of command) told.sources told.are) told.broken) is_line (λ put. (line, is_line, put))
-        (broken, rule, 0, asks) inr (nothing_emitted files Broken (λ value e. absurd (cc e)) (λ e. absurd (cc e)))
+        (asked_all (files_of command) finds.sources folder folder' finds.finds, (told.sources, it, broken, told.are, told.first, finds.breaks.first)) in
+        told_promise files Broken status line told.is_told (λ verdict is.
+        answer_broken words files verdict input command is_read told.sources (sources_found files (files_of command) told.sources told.are) it broken
+        (is_verdict words files told.sources (Breaks it broken) verdict (command, reads, told.are) told.first is)
+        ∙ ap (λ line. rejected Broken line files input) (sym line_is)) is_line (λ put. (line, is_line, put))
+        (it, broken, asks) inr (nothing_emitted files Broken (λ value e. absurd (cc e)) (λ e. absurd (cc e)))
         read (λ rose. (rose, inl read)) finds.finds.unchanged unasked same cause tells
 
     -- the same of a status that is this one
@@ -405,46 +430,46 @@ module _ (words : List (List ℕ)) (folder folder' : FolderState) (source source
     stopped_promise : (why : Stop) (status : Status) → StopsFor (files_of command) folder folder' why → source' ≡ source → out' ≡ out → HasCause (is_folder_fault {A = Unit {0}} (Err why)) folder.faults folder'.faults → TellsStop why note note' status → Promise words before after status
     stopped_promise (stop.NoFile name) status finds unasked same cause (inl tells) = no_file_promise name.now status finds unasked same cause tells
     stopped_promise (stop.NoFile name) status finds unasked same cause (inr (tried, e)) =
-        at_status Memory status e (memory_promise (told_files folder.files) (files_told folder.files) unasked same cause (does_stopped (told_files folder.files) (input_of source.left) (answer_of words (told_files folder.files) (input_of source.left)) command Memory (inr (inr (name.now, Ok None, tt, finds.asked))) unasked same) tried)
-    stopped_promise (stop.Broken name rule) status finds unasked same cause (inl tells) = broken_promise name.now rule status finds unasked same cause tells
-    stopped_promise (stop.Broken name rule) status finds unasked same cause (inr (tried, e)) =
-        at_status Memory status e (memory_promise (told_files folder.files) (files_told folder.files) unasked same cause (does_stopped (told_files folder.files) (input_of source.left) (answer_of words (told_files folder.files) (input_of source.left)) command Memory (inr (inl (asked_all (files_of command) finds.sources folder folder' finds.finds))) unasked same) tried)
+        at_status Memory status e (memory_promise (told_files folder.files) (files_told folder.files) unasked same cause (does_stopped (told_files folder.files) (input_of source.left) command Memory (inr (inr (name.now, Ok None, tt, finds.asked))) unasked same) tried)
+    stopped_promise (stop.Broken name rule row column) status finds unasked same cause (inl tells) = broken_promise name.now rule row column status finds unasked same cause tells
+    stopped_promise (stop.Broken name rule row column) status finds unasked same cause (inr (tried, e)) =
+        at_status Memory status e (memory_promise (told_files folder.files) (files_told folder.files) unasked same cause (does_stopped (told_files folder.files) (input_of source.left) command Memory (inr (inl (asked_all (files_of command) finds.sources folder folder' finds.finds))) unasked same) tried)
     stopped_promise stop.NotBuilt status finds unasked same cause (tried, e) = at_status NotBuilt status e (not_built_promise finds unasked same cause tried)
     stopped_promise stop.Folder status asked unasked same cause (tried, e) =
-        at_status FolderFault status e (folder_promise (told_files folder.files) (files_told folder.files) unasked same cause (does_stopped (told_files folder.files) (input_of source.left) (answer_of words (told_files folder.files) (input_of source.left)) command FolderFault asked unasked same) tried)
+        at_status FolderFault status e (folder_promise (told_files folder.files) (files_told folder.files) unasked same cause (does_stopped (told_files folder.files) (input_of source.left) command FolderFault asked unasked same) tried)
     stopped_promise stop.Input status never unasked same cause tells = absurd never
     stopped_promise stop.Sink status never unasked same cause tells = absurd never
     stopped_promise stop.Mem status asked unasked same cause (tried, e) =
-        at_status Memory status e (memory_promise (told_files folder.files) (files_told folder.files) unasked same cause (does_stopped (told_files folder.files) (input_of source.left) (answer_of words (told_files folder.files) (input_of source.left)) command Memory (inr asked) unasked same) tried)
+        at_status Memory status e (memory_promise (told_files folder.files) (files_told folder.files) unasked same cause (does_stopped (told_files folder.files) (input_of source.left) command Memory (inr asked) unasked same) tried)
 
     -- `out` failed, and the input didn't
-    sink_promise : (files : Contents) (input : List ℕ) → IsTold folder.files files → IsTold source.left input → source'.faults ≡ source.faults → GoesNoFurther (answer_of words files input) input before after → Excused before after (answer_of words files input).status → Rose out.faults out'.faults → (out.faults ≤ out'.faults) × (out'.faults ≤ out.faults + 1) → HasCause false folder.faults folder'.faults → Emits words files before after SinkFault → Does files input (answer_of words files input) command SinkFault → Tried output_fault_line note note' → Promise words before after SinkFault
+    sink_promise : (files : Contents) (input : List ℕ) → IsTold folder.files files → IsTold source.left input → source'.faults ≡ source.faults → Answers files input (λ answer. GoesNoFurther answer input before after) → Answers files input (λ answer. Excused before after answer.status) → Rose out.faults out'.faults → (out.faults ≤ out'.faults) × (out'.faults ≤ out.faults + 1) → HasCause false folder.faults folder'.faults → Emits words files before after SinkFault → Does files input command SinkFault → Tried output_fault_line note note' → Promise words before after SinkFault
     sink_promise files input is_told is_left dry stands excuse rose more cause emits does tried = (
       files,
       input,
       is_told,
       is_left,
       keeps words files input before after SinkFault
-          (λ calm. absurd (calm.out rose))
-          (λ final. absurd final)
+          (λ verdict is calm. absurd (calm.out rose))
+          (λ verdict is final. absurd final)
           emits
           (inl rose)
-          (inr excuse)
+          (λ verdict is. inr (excuse verdict is))
           (λ none. absurd (begins none))
           (record { folder = λ lt. absurd (let same : folder'.faults ≡ folder.faults = cause.stayed refl in omega arith); input = λ _ lt. absurd (omega arith); out = λ _ _ _. refl; note = λ _ _ _. inl (inl refl) })
           (grows cause (stays_grown source.faults source'.faults dry) more (try_grows _ note note' tried))
           stands
-          (acts files input (answer_of words files input) SinkFault does)
+          (acts files input SinkFault does)
           (inl (rose, tried)),
     )
 
     -- a program that was found
     module _ (program : Plain) (told : Accepted folder.files (files_of command) (Some program)) where
       held : HoldsPlain told.files (files_of command) program
-      held = (told.sources, told.are, (found_accepted told.sources told.accepted, found_program told.sources program told.program_is))
+      held = (told.sources, told.are, told.have)
 
-      answers_plain : (input : List ℕ) → answer_of words told.files input ≡ answer_to_plain command program told.files input
-      answers_plain input = answer_plain words told.files input command told.sources program is_read (sources_found told.files (files_of command) told.sources told.are) told.accepted told.program_is
+      answers_plain : (input : List ℕ) → Answers told.files input (λ answer. answer ≡ answer_to_plain command program told.files input)
+      answers_plain input verdict is = answer_held words told.files verdict input command program is_read held is
 
   -- `run` of files
   module _ (turns : ℕ) (names : List (List ℕ)) (is_read : command_of words ≡ Some (Run turns names)) where
@@ -460,29 +485,29 @@ module _ (words : List (List ℕ)) (folder folder' : FolderState) (source source
       run = plain_run program input turns
 
       -- what a plain file answers
-      answers : answer_of words told.files input ≡ ran names run told.files
+      answers : Answers told.files input (λ answer. answer ≡ ran names run told.files)
       answers = answers_plain command_run is_read program told input
 
       holds : HoldsPlain told.files names program
       holds = held command_run is_read program told
 
-      is_read_so : ReadProgram names program folder folder'
-      is_read_so = (asked_all names finds.sources folder folder' finds.finds, (found_accepted finds.sources finds.accepted, found_program finds.sources program finds.program_is))
+      is_read_so : ReadProgram names (Some program) folder folder'
+      is_read_so = (asked_all names finds.sources folder folder' finds.finds, finds.have)
 
       -- the words don't ask for C
       runs_only : (status : Status) → Emits words told.files before after status
       runs_only status name other asks = let never : command_run ≡ Emit name other = same_command command_run is_read (Emit name other) asks in absurd (cc never)
 
       -- a front of the run was done, and a prefix of what it prints is on `out`
-      stands_front : (events : List Event) (bytes : List ℕ) (result asking : Result (Unit {0}) Failed) → BeginsWith run events → IsPrefix bytes (printed run.events) → Prints bytes out out' result → AsksInput input events source source' asking → GoesNoFurther (answer_of words told.files input) input before after
-      stands_front events bytes result asking begins more prints asks = record {
+      stands_front : (events : List Event) (bytes : List ℕ) (result asking : Result (Unit {0}) Failed) → BeginsWith run events → IsPrefix bytes (printed run.events) → Prints bytes out out' result → AsksInput input events source source' asking → Answers told.files input (λ answer. GoesNoFurther answer input before after)
+      stands_front events bytes result asking begins more prints asks verdict is = record {
         out = each_some out.held _ (λ held e.
             let prefix = printed_prefix bytes out out' held result e prints in
             let longer : IsPrefix prefix.0 (printed run.events) = (prefix.1.0 ++ more.0, more.1 ∙ (ap (λ front. front ++ more.0) prefix.1.1 ∙ append_assoc prefix.0 prefix.1.0 more.0)) in
-            (prefix.0, subst (λ whole. IsPrefix prefix.0 whole) (sym (ap (λ answer. answer.out) answers)) longer, prefix.2));
+            (prefix.0, subst (λ whole. IsPrefix prefix.0 whole) (sym (ap (λ answer. answer.out) (answers verdict is))) longer, prefix.2));
         taken = each_some source.left _ (λ held e.
             let (front, later, whole, left) = takes_front input run events (rest_is program input turns) begins in
-            let same : run.rest ≡ (answer_of words told.files input).rest = sym (ap (λ answer. answer.rest) answers) in
+            let same : run.rest ≡ (answer_of words told.files verdict input).rest = sym (ap (λ answer. answer.rest) (answers verdict is)) in
             (front, later, whole ∙ ap (λ rest. front ++ later ++ rest) same, asks_left input events source source' asking (left_told source.left input is_left e) asks ∙ ap Some (left ∙ ap (λ rest. later ++ rest) same)));
       }
 
@@ -494,13 +519,13 @@ module _ (words : List (List ℕ)) (folder folder' : FolderState) (source source
         dry : source'.faults ≡ source.faults
         dry = asks_calm input run.events source source' done.got
 
-        stands_all : GoesNoFurther (answer_of words told.files input) input before after
+        stands_all : Answers told.files input (λ answer. GoesNoFurther answer input before after)
         stands_all = stands_front run.events (printed run.events) (Ok tt) (Ok tt) ([], sym (append-nil run.events)) (prefix_whole (printed run.events)) done.put done.got
 
         -- the call did what was answered, where `note` got what goes with the status
-        did_run : (status : Status) → status ≡ run_status run.ending → IfSome note.held (λ held. note'.held ≡ Some (held ++ run_line names run.ending)) → Did (answer_of words told.files input) before after status
-        did_run status same noted =
-            subst (λ answer. Did answer before after status) (sym answers)
+        did_run : (status : Status) → status ≡ run_status run.ending → IfSome note.held (λ held. note'.held ≡ Some (held ++ run_line names run.ending)) → Answers told.files input (λ answer. Did answer before after status)
+        did_run status same noted verdict is =
+            subst (λ answer. Did answer before after status) (sym (answers verdict is))
             (record {
               same_status = same;
               files = still_told folder.files folder'.files told.files told.is_told finds.finds.unchanged;
@@ -519,16 +544,16 @@ module _ (words : List (List ℕ)) (folder folder' : FolderState) (source source
               told.is_told,
               is_left,
               keeps words told.files input before after (Exit value)
-                  (λ calm. inl did)
-                  (λ _. did)
+                  (λ verdict is calm. inl (did verdict is))
+                  (λ verdict is _. did verdict is)
                   (runs_only (Exit value))
                   (little, (command_run, program, reads command_run is_read, holds, e))
-                  (subst (λ meant. Settles before after meant (Exit value)) (sym (ap (λ answer. answer.status) answers ∙ e)) (inl (inl refl)))
+                  (settles_as told.files input (Exit value) (Exit value) (λ verdict is. ap (λ answer. answer.status) (answers verdict is) ∙ e) (inl (inl refl)))
                   (λ none. absurd (begins command_run is_read none))
                   (hides_note (Exit value) (cause.stayed refl) dry calm (λ lt. absurd (omega arith)))
                   (grows cause (stays_grown source.faults source'.faults dry) (stays_grown out.faults out'.faults calm) (omega arith, omega arith))
                   stands_all
-                  (acts command_run is_read told.files input (answer_of words told.files input) (Exit value) (inr (program, holds, is_read_so, done)))
+                  (acts command_run is_read told.files input (Exit value) (inr (program, holds, is_read_so, done)))
                   quiet,
             )
 
@@ -536,7 +561,7 @@ module _ (words : List (List ℕ)) (folder folder' : FolderState) (source source
         line_memory_promise : Tried no_memory_line note note' → Promise words before after Memory
         line_memory_promise tried =
             memory_at (begins command_run is_read) told.files input told.is_told is_left dry calm stands_all cause
-            (acts command_run is_read told.files input (answer_of words told.files input) Memory (inr (program, holds, is_read_so, (run.events, ([], sym (append-nil run.events)), done))))
+            (acts command_run is_read told.files input Memory (inr (program, holds, is_read_so, (run.events, ([], sym (append-nil run.events)), done))))
             tried
 
         -- the program ended so, which has this status and its line
@@ -549,17 +574,17 @@ module _ (words : List (List ℕ)) (folder folder' : FolderState) (source source
               told.is_told,
               is_left,
               keeps words told.files input before after status
-                  (λ calm. let whole = tell_calm meant status line note note' tells calm.note in inl (did status whole.1 whole.0))
+                  (λ verdict is calm. let whole = tell_calm meant status line note note' tells calm.note in inl (did status whole.1 whole.0 verdict is))
                   (finished_told told.files input meant status line (did meant refl) tells)
                   (runs_only status)
                   (by_end (λ s. Cause words told.files input before after s) meant status ends (caused (command_run, program, reads command_run is_read, holds, e)) inr)
-                  (subst (λ other. Settles before after other status) (sym (ap (λ answer. answer.status) answers ∙ e))
+                  (settles_as told.files input meant status (λ verdict is. ap (λ answer. answer.status) (answers verdict is) ∙ e)
                   (by_end (λ s. Settles before after meant s) meant status ends (inl (inl refl)) (λ rose. inr (excuse rose))))
                   (λ none. absurd (begins command_run is_read none))
                   (hides_note status (cause.stayed refl) dry calm (note_told meant status ends))
                   (grows cause (stays_grown source.faults source'.faults dry) (stays_grown out.faults out'.faults calm) (tell_grows meant status line note note' tells))
                   stands_all
-                  (acts command_run is_read told.files input (answer_of words told.files input) status
+                  (acts command_run is_read told.files input status
                   (inr (program, holds, is_read_so, by_end (λ s. Went input run before after s) meant status ends (given done) (λ rose. inr (rose, done)))))
                   (noted_told told.files input meant status line is_line noted tells),
             )
@@ -624,16 +649,16 @@ module _ (words : List (List ℕ)) (folder folder' : FolderState) (source source
             told.is_told,
             is_left,
             keeps words told.files input before after InputFault
-                (λ calm. absurd (calm.input rose))
-                (λ final. absurd final)
+                (λ verdict is calm. absurd (calm.input rose))
+                (λ verdict is final. absurd final)
                 (runs_only InputFault)
                 rose
-                (inr (subst (λ answer. Excused before after answer.status) (sym answers) (run_yields before after run.ending (inr (inl rose)))))
+                (λ verdict is. inr (subst (λ answer. Excused before after answer.status) (sym (answers verdict is)) (run_yields before after run.ending (inr (inl rose)))))
                 (λ none. absurd (begins command_run is_read none))
                 (record { folder = λ lt. absurd (let same : folder'.faults ≡ folder.faults = cause.stayed refl in omega arith); input = λ _ _. refl; out = λ _ dry _. absurd (dry rose); note = λ _ dry _. absurd (dry rose) })
                 (grows cause (failed.1, failed.2) (stays_grown out.faults out'.faults calm) (try_grows _ note note' tried))
                 (stands_front events (printed events) (Ok tt) (Err (record {})) shorter (whole.0, whole.1 ∙ ap (λ front. front ++ whole.0) (append-nil (printed events))) prints asks)
-                (acts command_run is_read told.files input (answer_of words told.files input) InputFault (inr (program, holds, is_read_so, (events, begins_so, prints, asks))))
+                (acts command_run is_read told.files input InputFault (inr (program, holds, is_read_so, (events, begins_so, prints, asks))))
                 tried,
           )
 
@@ -645,7 +670,7 @@ module _ (words : List (List ℕ)) (folder folder' : FolderState) (source source
           let shorter : BeginsWith run events = (Puts byte ∷ begins_so.0, begins_so.1 ∙ append_assoc events (Puts byte ∷ []) begins_so.0) in
           sink_promise command_run is_read told.files input told.is_told is_left (asks_calm input events source source' asks)
           (stands_front events (printed events ++ byte ∷ []) (Err (record {})) (Ok tt) shorter (front_printed events (byte ∷ []) (Puts byte ∷ []) begins_so (printed-append events (Puts byte ∷ []))) prints asks)
-          (subst (λ answer. Excused before after answer.status) (sym answers) (run_yields before after run.ending (inr (inr failed.0))))
+          (λ verdict is. subst (λ answer. Excused before after answer.status) (sym (answers verdict is)) (run_yields before after run.ending (inr (inr failed.0))))
           failed.0 (failed.1, failed.2) cause (runs_only SinkFault)
           (inr (program, holds, is_read_so, inl (events, byte, begins_so, refused, asks)))
           tried
@@ -656,7 +681,7 @@ module _ (words : List (List ℕ)) (folder folder' : FolderState) (source source
           let whole = front_printed events [] [] (begins_so.0, begins_so.1 ∙ ap (λ front. front ++ begins_so.0) (sym (append-nil events))) (ap printed (append-nil events) ∙ sym (append-nil (printed events))) in
           memory_at (begins command_run is_read) told.files input told.is_told is_left (asks_calm input events source source' asks) (printed_calm (printed events) out out' prints)
           (stands_front events (printed events) (Ok tt) (Ok tt) begins_so (whole.0, whole.1 ∙ ap (λ front. front ++ whole.0) (append-nil (printed events))) prints asks) cause
-          (acts command_run is_read told.files input (answer_of words told.files input) Memory (inr (program, holds, is_read_so, (events, begins_so, record { put = prints; got = asks }))))
+          (acts command_run is_read told.files input Memory (inr (program, holds, is_read_so, (events, begins_so, record { put = prints; got = asks }))))
           tried
 
     -- the program was run to its end
@@ -671,7 +696,7 @@ module _ (words : List (List ℕ)) (folder folder' : FolderState) (source source
     stop_promise stop.Sink status (program, finds, (input, is_left, (events, byte, begins_so, prints, asks))) cause (tried, e) =
         at_status command_run is_read SinkFault status e (out_promise program finds cause input is_left events byte begins_so prints asks tried)
     stop_promise (stop.NoFile name) status (stops, unasked, same) cause tells = stopped_promise command_run is_read (stop.NoFile name) status stops unasked same cause tells
-    stop_promise (stop.Broken name rule) status (stops, unasked, same) cause tells = stopped_promise command_run is_read (stop.Broken name rule) status stops unasked same cause tells
+    stop_promise (stop.Broken name rule row column) status (stops, unasked, same) cause tells = stopped_promise command_run is_read (stop.Broken name rule row column) status stops unasked same cause tells
     stop_promise stop.NotBuilt status (stops, unasked, same) cause tells = stopped_promise command_run is_read stop.NotBuilt status stops unasked same cause tells
     stop_promise stop.Folder status (stops, unasked, same) cause tells = stopped_promise command_run is_read stop.Folder status stops unasked same cause tells
     stop_promise stop.Mem status (inl (stops, unasked, same)) cause tells = stopped_promise command_run is_read stop.Mem status stops unasked same cause tells
@@ -684,12 +709,12 @@ module _ (words : List (List ℕ)) (folder folder' : FolderState) (source source
     command = Emit name names
 
     -- a prefix of the line is on `out`
-    line_prefix : (input : List ℕ) (program : Plain) (told : Accepted folder.files names (Some program)) (result : Result (Unit {0}) Failed) → IsTold source.left input → source' ≡ source → Put (emitted_line (c_name name) (written program)) out out' result → GoesNoFurther (answer_of words told.files input) input before after
-    line_prefix input program told result is_left unasked put = record {
+    line_prefix : (input : List ℕ) (program : Plain) (told : Accepted folder.files names (Some program)) (result : Result (Unit {0}) Failed) → IsTold source.left input → source' ≡ source → Put (emitted_line (c_name name) (written program)) out out' result → Answers told.files input (λ answer. GoesNoFurther answer input before after)
+    line_prefix input program told result is_left unasked put verdict is = record {
       out = each_some out.held _ (λ held e.
           let prefix = gave_prefix out.held out'.held held (emitted_line (c_name name) (written program)) result e put.taken in
-          (prefix.0, subst (λ whole. IsPrefix prefix.0 whole) (sym (ap (λ answer. answer.out) (answers_plain command is_read program told input))) prefix.1, prefix.2));
-      taken = takes_nothing told.files input is_left unasked;
+          (prefix.0, subst (λ whole. IsPrefix prefix.0 whole) (sym (ap (λ answer. answer.out) (answers_plain command is_read program told input verdict is))) prefix.1, prefix.2));
+      taken = takes_nothing told.files input is_left unasked verdict;
     }
 
     -- the C was written
@@ -712,10 +737,8 @@ module _ (words : List (List ℕ)) (folder folder' : FolderState) (source source
         }
 
     -- what was read before the write is one plain file with the program
-    read_before : (program : Plain) {result : Result (Unit {0}) Refused} → (writes : WritesProgram name names program folder folder' result) → HaveProgram writes.wrote.sources program
-    read_before program writes =
-        subst (λ sources. HaveProgram sources program) (sym writes.same)
-        (found_accepted writes.finds.sources writes.finds.accepted, found_program writes.finds.sources program writes.finds.program_is)
+    read_before : (program : Plain) {result : Result (Unit {0}) Refused} → (writes : WritesProgram name names program folder folder' result) → HaveProgram writes.wrote.sources (Some program)
+    read_before program writes = subst (λ sources. HaveProgram sources (Some program)) (sym writes.same) writes.finds.have
 
     -- the C was written and told
     pub emit_promise : TellsC name names folder folder' out out' (Ok tt) → source' ≡ source → HasCause false folder.faults folder'.faults → note' ≡ note → Promise words before after (Exit 0)
@@ -730,8 +753,8 @@ module _ (words : List (List ℕ)) (folder folder' : FolderState) (source source
         let line = emitted_line (c_name name) (written program) in
         let calm : out'.faults ≡ out.faults = tells.told.cause.stayed refl in
         let same : note'.faults ≡ note.faults = ap (λ n. n.faults) quiet in
-        let did : Did (answer_of words files input) before after (Exit 0) =
-        subst (λ answer. Did answer before after (Exit 0)) (sym e)
+        let did : Answers files input (λ answer. Did answer before after (Exit 0)) =
+        λ verdict is. subst (λ answer. Did answer before after (Exit 0)) (sym (e verdict is))
         (record {
           same_status = refl;
           files = written_told folder.files folder'.files files (c_name name) (written program) told.is_told tells.writes.wrote.gives;
@@ -744,16 +767,16 @@ module _ (words : List (List ℕ)) (folder folder' : FolderState) (source source
           told.is_told,
           is_left,
           keeps words files input before after (Exit 0)
-              (λ calm. inl did)
-              (λ _. did)
+              (λ verdict is calm. inl (did verdict is))
+              (λ verdict is _. did verdict is)
               (emits files (Exit 0) (wrote_c_of program told tells.writes.wrote tells.is_tree tells.is_text) (λ value e. let zero : value ≡ 0 = cc in zero))
               (omega arith, (command, program, reads command is_read, plain, refl))
-              (subst (λ meant. Settles before after meant (Exit 0)) (sym (ap (λ answer. answer.status) e)) (inl (inl refl)))
+              (settles_as files input (Exit 0) (Exit 0) (λ verdict is. ap (λ answer. answer.status) (e verdict is)) (inl (inl refl)))
               (λ none. absurd (begins command is_read none))
               (hides_note (Exit 0) (cause.stayed refl) (dry_of unasked) calm (λ lt. absurd (omega arith)))
               (grows cause (asks_none unasked) (stays_grown out.faults out'.faults calm) (omega arith, omega arith))
               (line_prefix input program told (Ok tt) is_left unasked tells.told)
-              (acts command is_read files input (answer_of words files input) (Exit 0) (inr ((program, plain, tells.writes.wrote, read_before program tells.writes), subst (λ answer. Put answer.out out out' (Ok tt)) (sym e) tells.told), unasked))
+              (acts command is_read files input (Exit 0) (inr (program, ((plain, tells.writes.wrote, read_before program tells.writes), tells.told)), unasked))
               quiet,
         )
 
@@ -767,23 +790,23 @@ module _ (words : List (List ℕ)) (folder folder' : FolderState) (source source
         let rose : Rose out.faults out'.faults = tells.told.cause.rose refl in
         sink_promise command is_read told.files input told.is_told (input_told source.left) (dry_of unasked)
         (line_prefix input program told (Err (record {})) (input_told source.left) unasked tells.told)
-        (subst (λ answer. Excused before after answer.status) (sym e) (inr (inr rose)))
+        (λ verdict is. subst (λ answer. Excused before after answer.status) (sym (e verdict is)) (inr (inr rose)))
         rose (tells.told.cause.no_lower, tells.told.cause.by_one) cause
         (emits told.files SinkFault (wrote_c_of program told tells.writes.wrote tells.is_tree tells.is_text) (λ value e. absurd (cc e)))
-        (inr ((program, held command is_read program told, tells.writes.wrote, read_before program tells.writes), subst (λ answer. Put answer.out out out' (Err (record {}))) (sym e) tells.told), unasked)
+        (inr (program, ((held command is_read program told, tells.writes.wrote, read_before program tells.writes), tells.told)), unasked)
         tried
 
     -- the write was refused
     write_fault_promise : WritesC name names folder folder' (Err refused.Failed) → source' ≡ source → out' ≡ out → HasCause true folder.faults folder'.faults → Tried folder_fault_line note note' → Promise words before after FolderFault
     write_fault_promise (program, writes) unasked same cause tried =
         let told = told_accepted writes.finds in
-        folder_promise command is_read told.files told.is_told unasked same cause (inr ((program, held command is_read program told, writes.wrote, read_before program writes), same), unasked) tried
+        folder_promise command is_read told.files told.is_told unasked same cause (inr (program, ((held command is_read program told, writes.wrote, read_before program writes), same)), unasked) tried
 
     -- memory ran out in the write
     write_memory_promise : WritesC name names folder folder' (Err refused.Mem) → source' ≡ source → out' ≡ out → HasCause false folder.faults folder'.faults → Tried no_memory_line note note' → Promise words before after Memory
     write_memory_promise (program, writes) unasked same cause tried =
         let told = told_accepted writes.finds in
-        memory_promise command is_read told.files told.is_told unasked same cause (inr ((program, held command is_read program told, writes.wrote, read_before program writes), same), unasked) tried
+        memory_promise command is_read told.files told.is_told unasked same cause (inr (program, ((held command is_read program told, writes.wrote, read_before program writes), same)), unasked) tried
 
     -- the C was not written, or not told
     pub refused_promise : (why : Stop) (status : Status) → EmitsFiles name names folder folder' out out' (Err why) → source' ≡ source → HasCause (is_folder_fault {A = Unit {0}} (Err why)) folder.faults folder'.faults → TellsStop why note note' status → Promise words before after status
@@ -794,5 +817,89 @@ module _ (words : List (List ℕ)) (folder folder' : FolderState) (source source
     refused_promise stop.Mem status (inl asked, same) unasked cause tells = stopped_promise command is_read stop.Mem status asked unasked same cause tells
     refused_promise stop.Mem status (inr wrote, same) unasked cause (tried, e) = at_status command is_read Memory status e (write_memory_promise wrote unasked same cause tried)
     refused_promise (stop.NoFile other) status (stops, same) unasked cause tells = stopped_promise command is_read (stop.NoFile other) status stops unasked same cause tells
-    refused_promise (stop.Broken other rule) status (stops, same) unasked cause tells = stopped_promise command is_read (stop.Broken other rule) status stops unasked same cause tells
+    refused_promise (stop.Broken other rule row column) status (stops, same) unasked cause tells = stopped_promise command is_read (stop.Broken other rule row column) status stops unasked same cause tells
     refused_promise stop.NotBuilt status (stops, same) unasked cause tells = stopped_promise command is_read stop.NotBuilt status stops unasked same cause tells
+
+  -- `check` of files
+  module _ (names : List (List ℕ)) (is_read : command_of words ≡ Some (Check names)) where
+    abbrev command_check : Command
+    command_check = Check names
+
+    -- the words don't ask for C
+    checks_only : (files : Contents) (status : Status) → Emits words files before after status
+    checks_only files status name other asks = let never : command_check ≡ Emit name other = same_command command_check is_read (Emit name other) asks in absurd (cc never)
+
+    -- a prefix of the line is on `out`
+    accepted_prefix : (input : List ℕ) (program : Plain) (told : Accepted folder.files names (Some program)) (result : Result (Unit {0}) Failed) → IsTold source.left input → source' ≡ source → Put accepted_line out out' result → Answers told.files input (λ answer. GoesNoFurther answer input before after)
+    accepted_prefix input program told result is_left unasked put verdict is = record {
+      out = each_some out.held _ (λ held e.
+          let prefix = gave_prefix out.held out'.held held accepted_line result e put.taken in
+          (prefix.0, subst (λ whole. IsPrefix prefix.0 whole) (sym (ap (λ answer. answer.out) (answers_plain command_check is_read program told input verdict is))) prefix.1, prefix.2));
+      taken = takes_nothing told.files input is_left unasked verdict;
+    }
+
+    -- the files were accepted, and this was told
+    pub check_promise : TellsAccepted names folder folder' out out' (Ok tt) → source' ≡ source → HasCause false folder.faults folder'.faults → note' ≡ note → Promise words before after (Exit 0)
+    check_promise tells unasked cause quiet =
+        let program = tells.program in
+        let told = told_accepted tells.finds in
+        let files = told.files in
+        let input = input_of source.left in
+        let is_left = input_told source.left in
+        let plain = held command_check is_read program told in
+        let e = answers_plain command_check is_read program told input in
+        let calm : out'.faults ≡ out.faults = tells.told.cause.stayed refl in
+        let same : note'.faults ≡ note.faults = ap (λ n. n.faults) quiet in
+        let asked = asked_all names tells.finds.sources folder folder' tells.finds.finds in
+        let did : Answers files input (λ answer. Did answer before after (Exit 0)) =
+        λ verdict is. subst (λ answer. Did answer before after (Exit 0)) (sym (e verdict is))
+        (record {
+          same_status = refl;
+          files = still_told folder.files folder'.files files told.is_told asked.unchanged;
+          out = each_some out.held _ (λ held g. gave out.held out'.held held accepted_line g tells.told.taken);
+          note = each_some note.held _ (λ held g. ap (λ n. n.held) quiet ∙ (g ∙ ap Some (sym (append-nil held))));
+          rest = still_told source.left source'.left input is_left (ap (λ s. s.left) unasked);
+        }) in (
+          files,
+          input,
+          told.is_told,
+          is_left,
+          keeps words files input before after (Exit 0)
+              (λ verdict is calm. inl (did verdict is))
+              (λ verdict is _. did verdict is)
+              (checks_only files (Exit 0))
+              (omega arith, (command_check, program, reads command_check is_read, plain, refl))
+              (settles_as files input (Exit 0) (Exit 0) (λ verdict is. ap (λ answer. answer.status) (e verdict is)) (inl (inl refl)))
+              (λ none. absurd (begins command_check is_read none))
+              (hides_note (Exit 0) (cause.stayed refl) (dry_of unasked) calm (λ lt. absurd (omega arith)))
+              (grows cause (asks_none unasked) (stays_grown out.faults out'.faults calm) (omega arith, omega arith))
+              (accepted_prefix input program told (Ok tt) is_left unasked tells.told)
+              (acts command_check is_read files input (Exit 0) (inr (program, plain, (asked, tells.finds.have), tells.told), unasked))
+              quiet,
+        )
+
+    -- the line was refused
+    check_sink_promise : TellsAccepted names folder folder' out out' (Err (record {})) → source' ≡ source → HasCause false folder.faults folder'.faults → Tried output_fault_line note note' → Promise words before after SinkFault
+    check_sink_promise tells unasked cause tried =
+        let program = tells.program in
+        let told = told_accepted tells.finds in
+        let input = input_of source.left in
+        let e = answers_plain command_check is_read program told input in
+        let rose : Rose out.faults out'.faults = tells.told.cause.rose refl in
+        sink_promise command_check is_read told.files input told.is_told (input_told source.left) (dry_of unasked)
+        (accepted_prefix input program told (Err (record {})) (input_told source.left) unasked tells.told)
+        (λ verdict is. subst (λ answer. Excused before after answer.status) (sym (e verdict is)) (inr (inr rose)))
+        rose (tells.told.cause.no_lower, tells.told.cause.by_one) cause
+        (checks_only told.files SinkFault)
+        (inr (program, held command_check is_read program told, (asked_all names tells.finds.sources folder folder' tells.finds.finds, tells.finds.have), tells.told), unasked)
+        tried
+
+    -- the files weren't accepted, or this wasn't told
+    pub unchecked_promise : (why : Stop) (status : Status) → ChecksFiles names folder folder' out out' (Err why) → source' ≡ source → HasCause (is_folder_fault {A = Unit {0}} (Err why)) folder.faults folder'.faults → TellsStop why note note' status → Promise words before after status
+    unchecked_promise stop.Sink status told unasked cause (tried, e) = at_status command_check is_read SinkFault status e (check_sink_promise told unasked cause tried)
+    unchecked_promise stop.Input status (stops, same) unasked cause tells = stopped_promise command_check is_read stop.Input status stops unasked same cause tells
+    unchecked_promise stop.Folder status (stops, same) unasked cause tells = stopped_promise command_check is_read stop.Folder status stops unasked same cause tells
+    unchecked_promise stop.Mem status (stops, same) unasked cause tells = stopped_promise command_check is_read stop.Mem status stops unasked same cause tells
+    unchecked_promise (stop.NoFile other) status (stops, same) unasked cause tells = stopped_promise command_check is_read (stop.NoFile other) status stops unasked same cause tells
+    unchecked_promise (stop.Broken other rule row column) status (stops, same) unasked cause tells = stopped_promise command_check is_read (stop.Broken other rule row column) status stops unasked same cause tells
+    unchecked_promise stop.NotBuilt status (stops, same) unasked cause tells = stopped_promise command_check is_read stop.NotBuilt status stops unasked same cause tells

@@ -8,69 +8,85 @@ use Rattle.sl_run.specs.Run.{Ending, Done, Halt, TurnsSpent, StackSpent, Stuck}
 use Rattle.sl_tool.specs.declared.status.Status.{Status}
 use Rattle.sl_tool.specs.declared.status.Status.TheVariants.{Exit, Usage, Broken, NoFile, FolderFault, InputFault, SinkFault, Memory, NotBuilt}
 use Rattle.sl_tool.specs.declared.status.Status.TheVariants as status
-use Rattle.sl_plain.specs.declared.tree.Plain.{Plain}
-use Rattle.sl_text.specs.declared.rule.Rule.{Rule}
-use Rattle.sl_tool.specs.SourceFiles.{SourceFile, sources_of, first_broken_of, program_of}
+use Rattle.sl_plain.specs.declared.program.Plain.{Plain}
+use Rattle.sl_text.specs.declared.fault.Broken.{Broken as BrokenRule}
+use Rattle.sl_tree.specs.declared.tree.File.{File}
+use Rattle.sl_tool.specs.SourceFiles.{SourceFile, Verdict, Breaks, Trees, sources_of, program_of}
 use Rattle.sl_plain.specs.Means.{plain_run}
-use Rattle.sl_words.specs.Words.{Command, Run, Emit, files_of, Reads, BeginsNoCommand}
+use Rattle.sl_words.specs.Words.{Command, Run, Emit, Check, files_of, Reads, HasNoReading, BeginsNoCommand}
 use Rattle.sl_words.specs.WordsReading.{command_of}
-use Rattle.sl_tool.specs.Texts.{usage_line, broken_line, no_file_line, not_built_line}
-use Rattle.sl_tool.specs.Answer.{Answer, answer_of, answer_to_plain, rejected, ran, run_status}
+use Rattle.sl_tool.specs.Texts.{usage_line, no_file_line, not_built_line}
+use Rattle.sl_tool.specs.Answer.{Answer, IsVerdict, answer_of, answer_to_plain, rejected, ran, run_status, line_of_broken}
 use Rattle.sl_tool.specs.Outside.{Outside, FolderRose, InputRose, OutRose, NoteRose}
 use Rattle.sl_tool.specs.Promise.{IsUnlessMemory, HoldsPlain, Did, Complete, Finished, RanAs, Runs, Emits, ends_with, Cause, Comes, HidesNoFault, CountsGrow, GoesNoFurther, Acts, Noted, Keeps}
-use Rattle.sl_words.proofs.Reading.{command_of_reading, no_command}
-use Rattle.sl_tool.proofs.Sources.{missing_found, sources_found, accepted_found, broken_found, program_found, no_program_found}
+use Rattle.sl_words.proofs.Reading.{command_of_reading, reading_of_command, no_command}
+use Rattle.sl_tool.proofs.Sources.{missing_found, sources_found}
+use Rattle.sl_tool.proofs.Judged.{verdict_is, is_verdict}
 use Rattle.sl_plain.proofs.Rest.{rest_is}
 use Rattle.sl_tool.proofs.Answering.{answer_usage, answer_broken, answer_no_file, answer_not_built, answer_plain}
 
--- the answer to a plain file
-pub answer_held : (words : List (List ℕ)) (files : Contents) (input : List ℕ) (command : Command) (program : Plain) → command_of words ≡ Some command → HoldsPlain files (files_of command) program → answer_of words files input ≡ answer_to_plain command program files input
-answer_held words files input command program reads (sources, are, (accepted, plain)) =
-    answer_plain words files input command sources program reads (sources_found files (files_of command) sources are) (accepted_found sources accepted) (program_found sources program plain)
+-- words that have no reading ask for no sources
+pub usage_verdict : (words : List (List ℕ)) (files : Contents) (verdict : Verdict) → HasNoReading words → IsVerdict words files verdict
+usage_verdict words files verdict none sources (command, reads, are) = absurd (none command reads)
+
+-- nor do words with a file that isn't there
+pub missing_verdict : (words : List (List ℕ)) (files : Contents) (verdict : Verdict) (command : Command) (name : List ℕ) → command_of words ≡ Some command → sources_of files (files_of command) ≡ Err name → IsVerdict words files verdict
+missing_verdict words files verdict command name is_read none sources (other, reads, are) =
+    let same : command ≡ other = let e : Some command ≡ Some other = sym is_read ∙ command_of_reading words other reads in cc in
+    let both : Err name ≡ Ok sources = sym none ∙ (ap (λ c. sources_of files (files_of c)) same ∙ sources_found files (files_of other) sources are) in
+    absurd (cc both)
+
+-- the answer to one plain tree
+pub answer_held : (words : List (List ℕ)) (files : Contents) (verdict : Verdict) (input : List ℕ) (command : Command) (program : Plain) → command_of words ≡ Some command → HoldsPlain files (files_of command) program → IsVerdict words files verdict → answer_of words files verdict input ≡ answer_to_plain command program files input
+answer_held words files verdict input command program reads (sources, are, (trees, have, plain)) is =
+    answer_plain words files verdict input command reads sources (sources_found files (files_of command) sources are) trees
+    (is_verdict words files sources (Trees trees) verdict (command, reading_of_command words command reads, are) have is) program plain
 
 -- what holds of each answer holds of the one to these words
-pub by_answer : (words : List (List ℕ)) (files : Contents) (input : List ℕ) (P : Answer → Type 0)
+pub by_answer : (words : List (List ℕ)) (files : Contents) (verdict : Verdict) (input : List ℕ) (P : Answer → Type 0)
     → (command_of words ≡ None → P (rejected Usage usage_line files input))
     → ((name : List ℕ) → P (rejected NoFile (no_file_line name) files input))
-    → ((source : SourceFile) (rule : Rule) → P (rejected Broken (broken_line source.name 1 1 rule) files input))
+    → ((source : SourceFile) (broken : BrokenRule) → P (rejected Broken (line_of_broken source broken) files input))
     → P (rejected NotBuilt not_built_line files input)
     → ((command : Command) (program : Plain) → P (answer_to_plain command program files input))
-    → P (answer_of words files input)
-by_answer words files input P usage no_file broken not_built plain = at_command (command_of words) refl
+    → P (answer_of words files verdict input)
+by_answer words files verdict input P usage no_file broken not_built plain = at_command (command_of words) refl
   where
-    is : (answer : Answer) → answer_of words files input ≡ answer → P answer → P (answer_of words files input)
+    is : (answer : Answer) → answer_of words files verdict input ≡ answer → P answer → P (answer_of words files verdict input)
     is answer e h = subst P (sym e) h
 
-    at_program : (command : Command) (sources : List SourceFile) → command_of words ≡ Some command → sources_of files (files_of command) ≡ Ok sources → first_broken_of sources ≡ None → (found : Option Plain) → program_of sources ≡ found → P (answer_of words files input)
-    at_program command sources reads there accepted None e = is _ (answer_not_built words files input command sources reads there accepted e) not_built
-    at_program command sources reads there accepted (Some program) e = is _ (answer_plain words files input command sources program reads there accepted e) (plain command program)
+    at_program : (command : Command) (sources : List SourceFile) (trees : List File) → command_of words ≡ Some command → sources_of files (files_of command) ≡ Ok sources → verdict ≡ Trees trees → (found : Option Plain) → program_of trees ≡ found → P (answer_of words files verdict input)
+    at_program command sources trees reads there are None e = is _ (answer_not_built words files verdict input command reads sources there trees are e) not_built
+    at_program command sources trees reads there are (Some program) e = is _ (answer_plain words files verdict input command reads sources there trees are program e) (plain command program)
 
-    at_sources : (command : Command) (sources : List SourceFile) → command_of words ≡ Some command → sources_of files (files_of command) ≡ Ok sources → (found : Option (SourceFile × Rule)) → first_broken_of sources ≡ found → P (answer_of words files input)
-    at_sources command sources reads there None e = at_program command sources reads there e (program_of sources) refl
-    at_sources command sources reads there (Some (source, rule)) e = is _ (answer_broken words files input command sources source rule reads there e) (broken source rule)
+    at_verdict : (command : Command) (sources : List SourceFile) → command_of words ≡ Some command → sources_of files (files_of command) ≡ Ok sources → (found : Verdict) → verdict ≡ found → P (answer_of words files verdict input)
+    at_verdict command sources reads there (Trees trees) e = at_program command sources trees reads there e (program_of trees) refl
+    at_verdict command sources reads there (Breaks source rule) e = is _ (answer_broken words files verdict input command reads sources there source rule e) (broken source rule)
 
-    at_files : (command : Command) → command_of words ≡ Some command → (found : Result (List SourceFile) (List ℕ)) → sources_of files (files_of command) ≡ found → P (answer_of words files input)
-    at_files command reads (Err name) e = is _ (answer_no_file words files input command name reads e) (no_file name)
-    at_files command reads (Ok sources) e = at_sources command sources reads e (first_broken_of sources) refl
+    at_files : (command : Command) → command_of words ≡ Some command → (found : Result (List SourceFile) (List ℕ)) → sources_of files (files_of command) ≡ found → P (answer_of words files verdict input)
+    at_files command reads (Err name) e = is _ (answer_no_file words files verdict input command reads name e) (no_file name)
+    at_files command reads (Ok sources) e = at_verdict command sources reads e verdict refl
 
-    at_command : (command : Option Command) → command_of words ≡ command → P (answer_of words files input)
-    at_command None e = is _ (answer_usage words files input e) (usage e)
+    at_command : (command : Option Command) → command_of words ≡ command → P (answer_of words files verdict input)
+    at_command None e = is _ (answer_usage words files verdict input e) (usage e)
     at_command (Some command) e = at_files command e (sources_of files (files_of command)) refl
 
 -- what an answer leaves of the input is what stands behind some of it
-pub answer_suffix : (words : List (List ℕ)) (files : Contents) (input : List ℕ) → (more : List ℕ) × (input ≡ more ++ (answer_of words files input).rest)
-answer_suffix words files input = by_answer words files input (λ answer. (more : List ℕ) × (input ≡ more ++ answer.rest)) (λ _. ([], refl)) (λ _. ([], refl)) (λ _ _. ([], refl)) ([], refl) at
+pub answer_suffix : (words : List (List ℕ)) (files : Contents) (verdict : Verdict) (input : List ℕ) → (more : List ℕ) × (input ≡ more ++ (answer_of words files verdict input).rest)
+answer_suffix words files verdict input = by_answer words files verdict input (λ answer. (more : List ℕ) × (input ≡ more ++ answer.rest)) (λ _. ([], refl)) (λ _. ([], refl)) (λ _ _. ([], refl)) ([], refl) at
   where
     at : (command : Command) (program : Plain) → (more : List ℕ) × (input ≡ more ++ (answer_to_plain command program files input).rest)
     at (Run turns names) program =
         let n = length (asked (plain_run program input turns).events) in
         (take n input, sym (ap (λ rest. take n input ++ rest) (rest_is program input turns) ∙ take-append-drop n input))
     at (Emit name names) program = ([], refl)
+    at (Check names) program = ([], refl)
 
 -- a command on a plain program has the status with which it ends
 pub gives_status : (command : Command) (program : Plain) (files : Contents) (input : List ℕ) → (answer_to_plain command program files input).status ≡ ends_with command program input
 gives_status (Run turns names) program files input = refl
 gives_status (Emit name names) program files input = refl
+gives_status (Check names) program files input = refl
 
 -- neither of two
 neither : {A B : Type 0} → ¬ A → ¬ B → ¬ (A ⊎ B)
@@ -137,53 +153,68 @@ settled before after meant status calm (inl h) = h
 settled before after meant status calm (inr h) = absurd (calm h)
 
 module _ (words : List (List ℕ)) (files : Contents) (input : List ℕ) (before after : Outside) (status : Status) where
-  -- a complete call of `run` on a plain file ran its program
+  -- what was answered as a run was done as one
+  ran_as : (turns : ℕ) (names : List (List ℕ)) (program : Plain) (answer : Answer) → answer ≡ ran names (plain_run program input turns) files → Did answer before after status ⊎ (status ≡ Memory) → RanAs (plain_run program input turns) before after status ⊎ (status ≡ Memory)
+  ran_as turns names program answer same (inl did) =
+      let all : Did (ran names (plain_run program input turns) files) before after status = subst (λ answer. Did answer before after status) same did in
+      inl (record { ended = all.same_status; printed_bytes = all.out; rest = all.rest })
+  ran_as turns names program answer same (inr memory) = inr memory
+
+  -- a complete call of `run` on one plain tree ran its program
   runs : Complete words files input before after status → Runs words files input before after status
-  runs complete turns names program reads held calm = at (complete calm)
-    where
-      same : answer_of words files input ≡ ran names (plain_run program input turns) files
-      same = answer_held words files input (Run turns names) program (command_of_reading words (Run turns names) reads) held
+  runs complete turns names program reads (sources, are, (trees, have, plain)) calm =
+      let verdict = Trees trees in
+      let is : IsVerdict words files verdict = verdict_is words files sources verdict (Run turns names, reads, are) have in
+      let same : answer_of words files verdict input ≡ ran names (plain_run program input turns) files =
+      answer_held words files verdict input (Run turns names) program (command_of_reading words (Run turns names) reads) (sources, are, (trees, have, plain)) is in
+      ran_as turns names program (answer_of words files verdict input) same (complete verdict is calm)
 
-      ran_as : Did (ran names (plain_run program input turns) files) before after status → RanAs (plain_run program input turns) before after status
-      ran_as did = record { ended = did.same_status; printed_bytes = did.out; rest = did.rest }
-
-      at : Did (answer_of words files input) before after status ⊎ (status ≡ Memory) → RanAs (plain_run program input turns) before after status ⊎ (status ≡ Memory)
-      at (inl did) = inl (ran_as (subst (λ answer. Did answer before after status) same did))
-      at (inr memory) = inr memory
+  -- the status settles what is answered
+  abbrev pub AnswerSettles : Type 0
+  AnswerSettles = (verdict : Verdict) → IsVerdict words files verdict → Settles before after (answer_of words files verdict input).status status
 
   -- where a cause stands, its status comes
-  comes : Settles before after (answer_of words files input).status status → (BeginsNoCommand words → (status ≡ Usage) ⊎ ((status ≡ SinkFault) × NoteRose before after)) → Comes words files input before after status
+  comes : AnswerSettles → (BeginsNoCommand words → (status ≡ Usage) ⊎ ((status ≡ SinkFault) × NoteRose before after)) → Comes words files input before after status
   comes all at_once = record {
     at_once = at_once;
-    usage = λ none calm. settled before after Usage status calm (meant Usage (ap (λ answer. answer.status) (answer_usage words files input (no_command words none))));
+    usage = λ none calm. settled before after Usage status calm
+        (meant (Trees []) (usage_verdict words files (Trees []) none) Usage (ap (λ answer. answer.status) (answer_usage words files (Trees []) input (no_command words none))));
     no_file = λ name asks calm quiet.
         let (command, reads, none) = asks in
+        let is_read = command_of_reading words command reads in
+        let missing = missing_found files (files_of command) name none in
         settled before after NoFile status (neither calm quiet)
-        (meant NoFile (ap (λ answer. answer.status) (answer_no_file words files input command name (command_of_reading words command reads) (missing_found files (files_of command) name none))));
+        (meant (Trees []) (missing_verdict words files (Trees []) command name is_read missing) NoFile (ap (λ answer. answer.status) (answer_no_file words files (Trees []) input command is_read name missing)));
     not_built = λ asks calm.
-        let (sources, (command, reads, are), accepted, other) = asks in
+        let (sources, (command, reads, are), (trees, have, none)) = asks in
         settled before after NotBuilt status calm
-        (meant NotBuilt (ap (λ answer. answer.status) (answer_not_built words files input command sources (command_of_reading words command reads) (sources_found files (files_of command) sources are) (accepted_found sources accepted) (no_program_found sources other))));
-    broken = λ source rule place asks calm quiet.
+        (meant (Trees trees) (verdict_is words files sources (Trees trees) (command, reads, are) have) NotBuilt
+        (ap (λ answer. answer.status) (answer_not_built words files (Trees trees) input command (command_of_reading words command reads) sources (sources_found files (files_of command) sources are) trees refl none)));
+    broken = λ source rule asks calm quiet.
         let (sources, (command, reads, are), first) = asks in
         settled before after Broken status (neither calm quiet)
-        (meant Broken (ap (λ answer. answer.status) (answer_broken words files input command sources source rule (command_of_reading words command reads) (sources_found files (files_of command) sources are) (broken_found sources source rule place first).0)));
+        (meant (Breaks source rule) (verdict_is words files sources (Breaks source rule) (command, reads, are) first) Broken
+        (ap (λ answer. answer.status) (answer_broken words files (Breaks source rule) input command (command_of_reading words command reads) sources (sources_found files (files_of command) sources are) source rule refl)));
     ends = λ other ends calm dry quiet hush.
         let (command, program, reads, held, gives) = ends in
-        settled before after other status (none_yields before after calm dry quiet hush other) (meant other (ended command program reads held ∙ gives));
+        settled before after other status (none_yields before after calm dry quiet hush other) (ended command program reads held other gives);
     exit = λ value ends calm dry quiet.
         let (command, program, reads, held, gives) = ends in
-        settled before after (Exit value) status (neither calm (neither dry quiet)) (meant (Exit value) (ended command program reads held ∙ gives));
+        settled before after (Exit value) status (neither calm (neither dry quiet)) (ended command program reads held (Exit value) gives);
   }
     where
-      meant : (other : Status) → (answer_of words files input).status ≡ other → Settles before after other status
-      meant other e = subst (λ meant. Settles before after meant status) e all
+      meant : (verdict : Verdict) → IsVerdict words files verdict → (other : Status) → (answer_of words files verdict input).status ≡ other → Settles before after other status
+      meant verdict is other e = subst (λ meant. Settles before after meant status) e (all verdict is)
 
-      ended : (command : Command) (program : Plain) → Reads words command → HoldsPlain files (files_of command) program → (answer_of words files input).status ≡ ends_with command program input
-      ended command program reads held = ap (λ answer. answer.status) (answer_held words files input command program (command_of_reading words command reads) held) ∙ gives_status command program files input
+      ended : (command : Command) (program : Plain) → Reads words command → HoldsPlain files (files_of command) program → (other : Status) → ends_with command program input ≡ other → Settles before after other status
+      ended command program reads (sources, are, (trees, have, plain)) other gives =
+          let is = verdict_is words files sources (Trees trees) (command, reads, are) have in
+          meant (Trees trees) is other
+          (ap (λ answer. answer.status) (answer_held words files (Trees trees) input command program (command_of_reading words command reads) (sources, are, (trees, have, plain)) is)
+          ∙ (gives_status command program files input ∙ gives))
 
   -- the whole promise, of its parts
-  pub keeps : Complete words files input before after status → Finished words files input before after status → Emits words files before after status → Cause words files input before after status → Settles before after (answer_of words files input).status status → (BeginsNoCommand words → (status ≡ Usage) ⊎ ((status ≡ SinkFault) × NoteRose before after)) → HidesNoFault before after status → CountsGrow before after → GoesNoFurther (answer_of words files input) input before after → Acts words files input (answer_of words files input) before after status → Noted words files input before after status → Keeps words files input before after status
+  pub keeps : Complete words files input before after status → Finished words files input before after status → Emits words files before after status → Cause words files input before after status → AnswerSettles → (BeginsNoCommand words → (status ≡ Usage) ⊎ ((status ≡ SinkFault) × NoteRose before after)) → HidesNoFault before after status → CountsGrow before after → ((verdict : Verdict) → IsVerdict words files verdict → GoesNoFurther (answer_of words files verdict input) input before after) → Acts words files input before after status → Noted words files input before after status → Keeps words files input before after status
   keeps complete finished emits cause all at_once hides counts stands acts noted = record {
     complete = complete;
     finished = finished;

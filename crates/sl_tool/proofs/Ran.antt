@@ -16,7 +16,7 @@ use Rattle.c_machine.specs.Ran.{ComesTo, Opened, Runs}
 use Rattle.c_machine.specs.Ran as machine
 use Rattle.c_tree.specs.declared.tree.CFile.{CFile}
 use Rattle.c_tree.specs.Meaning.{c_run}
-use Rattle.sl_plain.specs.declared.tree.Plain.{Plain}
+use Rattle.sl_plain.specs.declared.program.Plain.{Plain}
 use Rattle.sl_plain.specs.Means.{plain_run}
 use Rattle.sl_tool.specs.Written.{tree_of, IsTreeOf}
 use Rattle.sl_tool.specs.Parts.{Ran, RanTree, RanProgram, IsDefined}

@@ -9,7 +9,7 @@ use Rattle.sl_outside.specs.Counts.{HasCause, one_more}
 use Rattle.sl_outside.specs.Folder.{Contents, OthersStay, WriteGives, is_fault, WriteCall, GoesOn, FolderState}
 use Rattle.sl_outside.specs.Sink.{SinkState}
 use Rattle.sl_tool.specs.declared.stop.Stop.{Stop}
-use Rattle.sl_plain.specs.declared.tree.Plain.{Plain}
+use Rattle.sl_plain.specs.declared.program.Plain.{Plain}
 use Rattle.sl_tool.specs.Written.{written}
 use Rattle.sl_tool.specs.Stopping.{stop_of}
 use Rattle.sl_tool.specs.Parts.{is_folder_fault, FindsAccepted, WritesProgram, WritesC, EmitsFiles}

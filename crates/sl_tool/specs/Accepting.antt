@@ -1,39 +1,32 @@
--- Which sources are accepted: the rules that a source can break so far, and the place of a broken rule.
-use Rattle.std.specs.Prelude.{◌≡◌, ◌⊎◌, ℕ, ◌<◌, ◌≤◌, List, ◌++◌, length, not, Option, Some, None, ◌==◌, nat_lt, if◌then◌else◌, codes}
-use Rattle.std.specs.List.{starts_with}
-use Rattle.sl_text.specs.declared.rule.Phase.TheVariants.{L}
-use Rattle.sl_text.specs.declared.rule.Rule.{Rule}
+-- Which sources are accepted: those that have a tree. The rules L speak of the bytes of a source and of the tokens that they are cut
+-- into, the rules G of the tree of these tokens. So where a rule L is broken, it comes before every rule G.
+use Rattle.std.specs.Prelude.{ℕ, List, ◌⊎◌, Result, Ok, Err}
+use Rattle.sl_text.specs.declared.token.Token.{Token}
+use Rattle.sl_text.specs.declared.fault.Broken.{Broken}
+use Rattle.sl_text.specs.declared.fault.Fault.{Fault}
+use Rattle.sl_text.specs.declared.fault.Fault.TheVariants as fault
+use Rattle.sl_tree.specs.declared.tree.File.{File}
+use Rattle.sl_token.specs.Cut.{AreTokens, IsFirstFault}
+use Rattle.sl_parse.specs.Answers.{Parsed}
 
--- the comment with which every source begins
-abbrev pub mark : List ℕ
-mark = codes "// #Sireum"
+-- a file of this number has this tree: its bytes break no rule L, and their tokens are those of the tree, which breaks no rule G
+pub record HasTree (file : ℕ) (bytes : List ℕ) (tree : File) : Type 0 where
+  pub tokens : List Token
+  pub cut : AreTokens file bytes tokens
+  pub parsed : Parsed file bytes tokens (Ok tree)
 
--- the most bytes that a source may have
-abbrev pub greatest_length : ℕ
-greatest_length = 4194304
+-- it breaks no rule L, and this is the rule G that it breaks first, and where
+pub record BreaksGrammar (file : ℕ) (bytes : List ℕ) (broken : Broken) : Type 0 where
+  pub tokens : List Token
+  pub cut : AreTokens file bytes tokens
+  pub parsed : Parsed file bytes tokens (Err (fault.Broken broken))
 
--- a rule on bytes
-abbrev pub lexical : ℕ → Rule
-lexical number = record { phase = L; number = number }
+-- this is the rule that it breaks first, and where: the first rule L, or else the first rule G
+abbrev pub IsFirstBroken : ℕ → List ℕ → Broken → Type 0
+IsFirstBroken file bytes broken = IsFirstFault file bytes broken ⊎ BreaksGrammar file bytes broken
 
--- a rule is broken at a place, which is counted in bytes from 0. L1: the source doesn't begin with the mark. L7: it is too long
-abbrev pub Breaks : List ℕ → Rule → ℕ → Type 0
-Breaks bytes rule place =
-    ((rule ≡ lexical 1) × (place ≡ 0) × ((rest : List ℕ) → ¬ (bytes ≡ mark ++ rest)))
-    ⊎ ((rule ≡ lexical 7) × (place ≡ 0) × (greatest_length < length bytes))
-
--- no rule is broken
-abbrev pub IsAccepted : List ℕ → Type 0
-IsAccepted bytes = (rule : Rule) (place : ℕ) → ¬ Breaks bytes rule place
-
--- of the rules that are broken, the one at the least place, and of those at one place the one with the least number
-pub record IsFirstBroken (bytes : List ℕ) (rule : Rule) (place : ℕ) : Type 0 where
-  pub broken : Breaks bytes rule place
-  pub first : (other : Rule) (elsewhere : ℕ) → Breaks bytes other elsewhere → (place < elsewhere) ⊎ ((place ≡ elsewhere) × (rule.number ≤ other.number))
-
--- the first broken rule, if there is one. So far each stands at the first byte
-abbrev pub first_broken : List ℕ → Option Rule
-first_broken bytes =
-    if not (starts_with ◌==◌ bytes mark) then Some (lexical 1)
-    else if nat_lt greatest_length (length bytes) then Some (lexical 7)
-    else None
+-- what is found of a file: its tree, or the rule that it breaks first, or want of memory
+abbrev pub IsRead : ℕ → List ℕ → Result File Fault → Type 0
+IsRead file bytes (Ok tree) = HasTree file bytes tree
+IsRead file bytes (Err (fault.Broken broken)) = IsFirstBroken file bytes broken
+IsRead file bytes (Err fault.Mem) = Unit {0}

@@ -6,15 +6,15 @@ use Rattle.sl_run.specs.Run.{Ending, Done, Halt, TurnsSpent, StackSpent, Stuck}
 use Rattle.sl_run.specs.Outcome.{Outcome, printed}
 use Rattle.sl_tool.specs.declared.status.Status.{Status}
 use Rattle.sl_tool.specs.declared.status.Status.TheVariants as status
-use Rattle.sl_plain.specs.declared.tree.Plain.{Plain}
-use Rattle.sl_text.specs.declared.rule.Rule.{Rule}
+use Rattle.sl_plain.specs.declared.program.Plain.{Plain}
+use Rattle.sl_text.specs.declared.fault.Broken.{Broken}
 use Rattle.sl_text.specs.Places.{line_of, column_of}
-use Rattle.sl_tool.specs.SourceFiles.{SourceFile, sources_of, first_broken_of, program_of}
+use Rattle.sl_tool.specs.SourceFiles.{SourceFile, AreSources, Verdict, Breaks, Trees, Judged, sources_of, program_of}
 use Rattle.sl_plain.specs.Means.{plain_run}
 use Rattle.sl_tool.specs.Written.{written}
-use Rattle.sl_words.specs.Words.{Command, Run, Emit, files_of}
+use Rattle.sl_words.specs.Words.{Command, Run, Emit, Check, files_of, Reads}
 use Rattle.sl_words.specs.WordsReading.{command_of}
-use Rattle.sl_tool.specs.Texts.{emitted_line, usage_line, broken_line, no_file_line, file_name, halt_line, turns_spent_line, stack_spent_line, exit_value_line, not_built_line}
+use Rattle.sl_tool.specs.Texts.{emitted_line, accepted_line, usage_line, broken_line, no_file_line, file_name, halt_line, turns_spent_line, stack_spent_line, exit_value_line, not_built_line}
 
 -- the exit status of the process
 abbrev pub code_of : Status → ℕ
@@ -113,32 +113,48 @@ with_file files name bytes = λ other. if bytes_eq other name then Some bytes el
 abbrev pub emitted : List ℕ → List ℕ → Contents → List ℕ → Answer
 emitted name text files input = record { status = status.Exit 0; files = with_file files (c_name name) text; out = emitted_line (c_name name) text; note = []; rest = input }
 
+-- files that were accepted
+abbrev pub accepted : Contents → List ℕ → Answer
+accepted files input = record { status = status.Exit 0; files = files; out = accepted_line; note = []; rest = input }
+
+-- the line of a source that breaks a rule
+abbrev pub line_of_broken : SourceFile → Broken → List ℕ
+line_of_broken source broken = broken_line source.name (line_of source.bytes broken.span.from) (column_of source.bytes broken.span.from) broken.rule
+
 -- what a command does with a plain program
 abbrev pub answer_to_plain : Command → Plain → Contents → List ℕ → Answer
 answer_to_plain (Run turns names) program files input = ran names (plain_run program input turns) files
 answer_to_plain (Emit name names) program files input = emitted name (written program) files input
+answer_to_plain (Check names) program files input = accepted files input
 
--- a command's answer to what was read: a plain program, or something that isn't built yet
+-- a command's answer to trees: the program of one plain tree, or something that isn't built yet
 abbrev pub answer_to_program : Command → Option Plain → Contents → List ℕ → Answer
 answer_to_program command None files input = rejected status.NotBuilt not_built_line files input
 answer_to_program command (Some program) files input = answer_to_plain command program files input
 
--- a command's answer to sources of which this one is the first that breaks a rule, and that rule, or none
-abbrev pub answer_to_sources : Command → List SourceFile → Option (SourceFile × Rule) → Contents → List ℕ → Answer
-answer_to_sources command sources (Some broken) files input =
-    rejected status.Broken (broken_line broken.0.name (line_of broken.0.bytes 0) (column_of broken.0.bytes 0) broken.1) files input
-answer_to_sources command sources None files input = answer_to_program command (program_of sources) files input
+-- a command's answer to what comes of reading its sources
+abbrev pub answer_to_verdict : Command → Verdict → Contents → List ℕ → Answer
+answer_to_verdict command (Breaks source broken) files input = rejected status.Broken (line_of_broken source broken) files input
+answer_to_verdict command (Trees trees) files input = answer_to_program command (program_of trees) files input
 
--- a command's answer to the sources that it names, or to the first name that isn't there
-abbrev pub answer_to_files : Command → Result (List SourceFile) (List ℕ) → Contents → List ℕ → Answer
-answer_to_files command (Err name) files input = rejected status.NoFile (no_file_line name) files input
-answer_to_files command (Ok sources) files input = answer_to_sources command sources (first_broken_of sources) files input
+-- a command's answer to the sources that it names, from which this comes, or to the first name that isn't there
+abbrev pub answer_to_files : Command → Result (List SourceFile) (List ℕ) → Verdict → Contents → List ℕ → Answer
+answer_to_files command (Err name) verdict files input = rejected status.NoFile (no_file_line name) files input
+answer_to_files command (Ok sources) verdict files input = answer_to_verdict command verdict files input
 
 -- the answer to a command, or to words that have no reading
-abbrev pub answer_to : Option Command → Contents → List ℕ → Answer
-answer_to None files input = rejected status.Usage usage_line files input
-answer_to (Some command) files input = answer_to_files command (sources_of files (files_of command)) files input
+abbrev pub answer_to : Option Command → Contents → Verdict → List ℕ → Answer
+answer_to None files verdict input = rejected status.Usage usage_line files input
+answer_to (Some command) files verdict input = answer_to_files command (sources_of files (files_of command)) verdict files input
 
--- the answer to these words, over these files and this input
-unfoldable pub answer_of : List (List ℕ) → Contents → List ℕ → Answer
-answer_of words files input = answer_to (command_of words) files input
+-- the words ask for these sources, which are all there
+abbrev pub AsksFor : List (List ℕ) → Contents → List SourceFile → Type 0
+AsksFor words files sources = (command : Command) × Reads words command × AreSources files (files_of command) sources
+
+-- this comes of reading the sources that the words ask for, if they ask for sources that are all there
+abbrev pub IsVerdict : List (List ℕ) → Contents → Verdict → Type 0
+IsVerdict words files verdict = (sources : List SourceFile) → AsksFor words files sources → Judged sources verdict
+
+-- the answer to these words, over these files and this input, where this comes of reading the files
+unfoldable pub answer_of : List (List ℕ) → Contents → Verdict → List ℕ → Answer
+answer_of words files verdict input = answer_to (command_of words) files verdict input

@@ -1,14 +1,14 @@
 -- The tool: its definitions, in reading order.
 
--- which rules a source breaks, and where (`Breaks`, `IsFirstBroken`)
+-- which sources are accepted (`HasTree`), and which rule one breaks first, and where (`IsFirstBroken`)
 pub mod Accepting
--- the files of a command as sources (`AreSources`, `IsFirstBrokenOf`, `ArePlain`)
+-- the files of a command as sources (`AreSources`), and what comes of reading them (`Verdict`, `Judged`)
 pub mod SourceFiles
 -- the C of a plain program (`tree_of`, `written`)
 pub mod Written
 -- the lines of the tool
 pub mod Texts
--- the tool as one function (`answer_of`), and the numbers of statuses (`code_of`)
+-- the tool as one function of the verdict (`answer_of`, `IsVerdict`), and the numbers of statuses (`code_of`)
 pub mod Answer
 -- the outside before and after a call
 pub mod Outside

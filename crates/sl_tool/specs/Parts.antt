@@ -1,6 +1,5 @@
 -- What the private functions of the crate owe.
-use Rattle.std.specs.Prelude.{◌≡◌, ◌≢◌, ◌⊎◌, ℕ, List, [], ◌∷◌, ◌++◌, length, map, option_map, Option, Some, None, IfSome, Result, Ok, Err, Bool, true, false}
-use Rattle.std.specs.Borrow.{Bor}
+use Rattle.std.specs.Prelude.{◌≡◌, ◌≢◌, ◌⊎◌, ℕ, List, [], ◌∷◌, ◌++◌, length, map, Option, Some, None, IfSome, Result, Ok, Err, Bool, true, false}
 use Rattle.sl_outside.specs.declared.folder.Refused.{Refused}
 use Rattle.sl_outside.specs.declared.folder.Refused.TheVariants as refused
 use Rattle.sl_outside.specs.declared.source.Failed.{Failed}
@@ -14,9 +13,14 @@ use Rattle.sl_tool.specs.declared.stop.Stop.TheVariants as stop
 use Rattle.sl_tool.specs.declared.source.SourceFile as found
 use Rattle.sl_tool.specs.declared.status.Status.{Status}
 use Rattle.sl_tool.specs.declared.status.Status.TheVariants.{Exit, Broken, NoFile, FolderFault, InputFault, SinkFault, Memory, NotBuilt}
-use Rattle.sl_plain.specs.declared.tree.Plain.{Plain}
+use Rattle.sl_plain.specs.declared.program.Plain.{Plain}
 use Rattle.sl_text.specs.declared.rule.Rule.{Rule}
-use Rattle.sl_tool.specs.SourceFiles.{SourceFile, names_of, AreSources, first_broken_of, program_of}
+use Rattle.sl_text.specs.declared.place.Span.{Span}
+use Rattle.sl_text.specs.declared.fault.Broken.{Broken as BrokenRule}
+use Rattle.sl_text.specs.Places.{line_of, column_of}
+use Rattle.sl_tree.specs.declared.tree.File.{File}
+use Rattle.sl_tool.specs.Accepting.{HasTree, IsFirstBroken}
+use Rattle.sl_tool.specs.SourceFiles.{SourceFile, names_of, AreSources, only_file, HaveTrees, IsFirstBrokenOf, HaveProgram}
 use Rattle.sl_run.specs.Run.{Stuck, Event, Puts, Asks}
 use Rattle.sl_tool.specs.Written.{tree_of, written, IsTreeOf}
 use Rattle.c_machine.specs.declared.ending.End.{End}
@@ -31,7 +35,7 @@ use Rattle.sl_tool.specs.Answer.{c_name, run_status, run_line}
 use Rattle.sl_tool.specs.Promise.{more_calls, reads_of, AskedUpTo, AskedForSome, AskedAndWrote}
 use Rattle.c_machine.specs.Outside.{AsksInput}
 use Rattle.sl_tool.specs.Outside.{IsTold}
-use Rattle.sl_tool.specs.Texts.{emitted_line, broken_line, no_file_line, folder_fault_line, input_fault_line, output_fault_line, no_memory_line, not_built_line}
+use Rattle.sl_tool.specs.Texts.{emitted_line, accepted_line, broken_line, no_file_line, folder_fault_line, input_fault_line, output_fault_line, no_memory_line, not_built_line}
 
 -- a line was put, or it was refused, and the line that says so was tried
 abbrev pub Tells : List ℕ → Status → SinkState → SinkState → Status → Type 0
@@ -44,17 +48,55 @@ abbrev pub is_folder_fault : {A : Type 0} → Result A Stop → Bool
 is_folder_fault (Err stop.Folder) = true
 is_folder_fault other = false
 
--- the name of a source that breaks a rule, and the rule
-abbrev pub broken_name : Option (SourceFile × Rule) → Option (List ℕ × Rule)
-broken_name broken = option_map {U = List ℕ × Rule} (λ found. (found.0.name, found.1)) broken
-
--- as the code has them
-abbrev pub broken_seen : Option (Bor (List ℕ) × Rule) → Option (List ℕ × Rule)
-broken_seen broken = option_map {U = List ℕ × Rule} (λ found. (found.0.now, found.1)) broken
-
 -- sources as the code has them
+abbrev pub source_seen : found.SourceFile → SourceFile
+source_seen source = record { name = source.name.now; bytes = source.bytes }
+
 abbrev pub sources_seen : List found.SourceFile → List SourceFile
-sources_seen sources = map (λ source. record { name = source.name.now; bytes = source.bytes }) sources
+sources_seen sources = map source_seen sources
+
+-- a broken rule has this line and this column among these bytes
+pub record StandsAt (bytes : List ℕ) (broken : BrokenRule) (line column : ℕ) : Type 0 where
+  pub line_is : line ≡ line_of bytes broken.span.from
+  pub column_is : column ≡ column_of bytes broken.span.from
+
+-- a source has this name, and this is the rule that it breaks first, at this line and column
+pub record BreaksAt (source : SourceFile) (name : List ℕ) (rule : Rule) (line column : ℕ) : Type 0 where
+  pub span : Span
+  pub named : source.name ≡ name
+  pub first : IsFirstBroken only_file source.bytes (record { rule = rule; span = span })
+  pub stands : StandsAt source.bytes (record { rule = rule; span = span }) line column
+
+-- what is found of a source: its tree, or the rule that it breaks first, or want of memory
+abbrev pub GivesTree : SourceFile → Result File Stop → Type 0
+GivesTree source (Ok tree) = HasTree only_file source.bytes tree
+GivesTree source (Err (stop.Broken name rule line column)) = BreaksAt source name.now rule line column
+GivesTree source (Err stop.Mem) = Unit {0}
+GivesTree source (Err other) = ⊥
+
+-- of the sources, the one with this name is the first that breaks a rule, and this is the rule that it breaks first, at this line and
+-- column
+pub record FirstBreaksAt (sources : List SourceFile) (name : List ℕ) (rule : Rule) (line column : ℕ) : Type 0 where
+  pub bytes : List ℕ
+  pub span : Span
+  pub first : IsFirstBrokenOf sources (record { name = name; bytes = bytes }) (record { rule = rule; span = span })
+  pub stands : StandsAt bytes (record { rule = rule; span = span }) line column
+
+-- why sources have no program: one of them breaks a rule, or memory ran out
+abbrev pub GivesNone : List SourceFile → Stop → Type 0
+GivesNone sources (stop.Broken name rule line column) = FirstBreaksAt sources name.now rule line column
+GivesNone sources stop.Mem = Unit {0}
+GivesNone sources other = ⊥
+
+-- what is found of sources: that they have trees
+abbrev pub GivesTrees : List SourceFile → Result (Unit {0}) Stop → Type 0
+GivesTrees sources (Ok done) = (trees : List File) × HaveTrees sources trees
+GivesTrees sources (Err stop) = GivesNone sources stop
+
+-- and the program of their trees
+abbrev pub GivesProgram : List SourceFile → Result (Option Plain) Stop → Type 0
+GivesProgram sources (Ok program) = HaveProgram sources program
+GivesProgram sources (Err stop) = GivesNone sources stop
 
 -- the folder has this under the name, where it tells
 abbrev pub Finds : Option Contents → List ℕ → Option (List ℕ) → Type 0
@@ -68,19 +110,18 @@ pub record FindsSources (names : List (List ℕ)) (sources : List SourceFile) (b
   pub told : IfSome before.files (λ held. AreSources held names sources)
   pub log : GoesOn before.log after.log (reads_of sources)
 
--- the sources break no rule, and this is their program, if they are one plain file
+-- the sources have trees, and this is the program of these, if they are one plain tree
 pub record FindsAccepted (names : List (List ℕ)) (program : Option Plain) (before after : FolderState) : Type 0 where
   pub sources : List SourceFile
   pub finds : FindsSources names sources before after
-  pub accepted : first_broken_of sources ≡ None
-  pub program_is : program_of sources ≡ program
+  pub have : HaveProgram sources program
 
--- of the sources, the one with this name is the first that breaks a rule, and this is the first rule that it breaks
-pub record FindsBroken (names : List (List ℕ)) (name : List ℕ) (rule : Rule) (before after : FolderState) : Type 0 where
+-- of the sources, the one with this name is the first that breaks a rule, and this is the rule that it breaks first, at this line and
+-- column
+pub record FindsBroken (names : List (List ℕ)) (name : List ℕ) (rule : Rule) (line column : ℕ) (before after : FolderState) : Type 0 where
   pub sources : List SourceFile
-  pub bytes : List ℕ
   pub finds : FindsSources names sources before after
-  pub broken : first_broken_of sources ≡ Some (record { name = name; bytes = bytes }, rule)
+  pub breaks : FirstBreaksAt sources name rule line column
 
 -- the folder was asked for the names up to this one, which isn't there, where it tells
 pub record FindsMissing (names : List (List ℕ)) (name : List ℕ) (before after : FolderState) : Type 0 where
@@ -94,7 +135,7 @@ FailsAtSome names before after = (name : List ℕ) × AskedUpTo names name (Err 
 -- a command stopped before it ran or wrote anything
 abbrev pub StopsFor : List (List ℕ) → FolderState → FolderState → Stop → Type 0
 StopsFor names before after (stop.NoFile name) = FindsMissing names name.now before after
-StopsFor names before after (stop.Broken name rule) = FindsBroken names name.now rule before after
+StopsFor names before after (stop.Broken name rule line column) = FindsBroken names name.now rule line column before after
 StopsFor names before after stop.NotBuilt = FindsAccepted names None before after
 StopsFor names before after stop.Folder = FailsAtSome names before after
 StopsFor names before after stop.Input = ⊥
@@ -173,6 +214,18 @@ EmitsFiles name names before after out out' (Err stop.Folder) = (FailsAtSome nam
 EmitsFiles name names before after out out' (Err stop.Mem) = (AskedForSome names before after ⊎ WritesC name names before after (Err refused.Mem)) × (out' ≡ out)
 EmitsFiles name names before after out out' (Err stop) = StopsFor names before after stop × (out' ≡ out)
 
+-- a program was read, and then the line that tells that it is accepted was put, which the output answered so
+pub record TellsAccepted (names : List (List ℕ)) (before after : FolderState) (out out' : SinkState) (result : Result (Unit {0}) Failed) : Type 0 where
+  pub program : Plain
+  pub finds : FindsAccepted names (Some program) before after
+  pub told : Put accepted_line out out' result
+
+-- files were accepted, or weren't
+abbrev pub ChecksFiles : List (List ℕ) → FolderState → FolderState → SinkState → SinkState → Result (Unit {0}) Stop → Type 0
+ChecksFiles names before after out out' (Ok done) = TellsAccepted names before after out out' (Ok tt)
+ChecksFiles names before after out out' (Err stop.Sink) = TellsAccepted names before after out out' (Err (record {}))
+ChecksFiles names before after out out' (Err stop) = StopsFor names before after stop × (out' ≡ out)
+
 -- a line was made and told, or memory ran out in making it
 abbrev pub MakesAndTells : List ℕ → Status → SinkState → SinkState → Status → Type 0
 MakesAndTells line meant before after status = Tells line meant before after status ⊎ (Tried no_memory_line before after × (status ≡ Memory))
@@ -180,7 +233,7 @@ MakesAndTells line meant before after status = Tells line meant before after sta
 -- the line of what stopped a command, with the status that comes of it
 abbrev pub TellsStop : Stop → SinkState → SinkState → Status → Type 0
 TellsStop (stop.NoFile name) before after status = MakesAndTells (no_file_line name.now) NoFile before after status
-TellsStop (stop.Broken name rule) before after status = MakesAndTells (broken_line name.now 1 1 rule) Broken before after status
+TellsStop (stop.Broken name rule line column) before after status = MakesAndTells (broken_line name.now line column rule) Broken before after status
 TellsStop stop.NotBuilt before after status = Tried not_built_line before after × (status ≡ NotBuilt)
 TellsStop stop.Folder before after status = Tried folder_fault_line before after × (status ≡ FolderFault)
 TellsStop stop.Input before after status = Tried input_fault_line before after × (status ≡ InputFault)

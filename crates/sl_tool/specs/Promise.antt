@@ -1,7 +1,8 @@
 -- What a call of `slang` promises. `before` is the outside as the call found it, and `after` as it left it. `files` is what the
 -- folder tells that it holds, and `input` what the input tells that it has left. Of a folder or an input that tells nothing, the
 -- promise is that it holds of some `files` and some `input`. Of an output that tells nothing of its bytes, nothing is said but
--- its counts of faults and of calls.
+-- its counts of faults and of calls. What is said of `answer_of` stands for the verdict on the files, of which there is one at most.
+-- A call that ran out of memory before it had read them all may have found none.
 use Rattle.std.specs.Prelude.{◌≡◌, ◌⊎◌, ℕ, ◌+◌, zero, suc, ◌<◌, ◌≤◌, List, [], ◌∷◌, ◌++◌, length, map, Option, Some, None, IfSome, Result, Ok, Err}
 use Rattle.sl_outside.specs.declared.folder.Refused.{Refused}
 use Rattle.sl_outside.specs.declared.folder.Refused.TheVariants as refused
@@ -18,28 +19,23 @@ use Rattle.c_tree.specs.Rules.{KeepsRules}
 use Rattle.c_tree.specs.Meaning.{c_run}
 use Rattle.sl_tool.specs.declared.status.Status.{Status}
 use Rattle.sl_tool.specs.declared.status.Status.TheVariants.{Exit, Usage, Broken, Halted, TurnsSpent, StackSpent, ExitValue, NotC, Stuck, NoFile, FolderFault, InputFault, SinkFault, Memory, NotBuilt}
-use Rattle.sl_plain.specs.declared.tree.Plain.{Plain}
-use Rattle.sl_text.specs.declared.rule.Rule.{Rule}
-use Rattle.sl_text.specs.Places.{line_of, column_of}
-use Rattle.sl_tool.specs.SourceFiles.{SourceFile, names_of, AreSources, IsFirstMissing, AreAccepted, IsFirstBrokenOf, ArePlain}
+use Rattle.sl_plain.specs.declared.program.Plain.{Plain}
+use Rattle.sl_text.specs.declared.fault.Broken.{Broken as BrokenRule}
+use Rattle.sl_tool.specs.SourceFiles.{SourceFile, names_of, AreSources, IsFirstMissing, IsFirstBrokenOf, Verdict, HaveProgram}
 use Rattle.sl_plain.specs.Means.{plain_run}
 use Rattle.sl_tool.specs.Written.{written}
-use Rattle.sl_words.specs.Words.{Command, Run, Emit, files_of, Reads, HasNoReading, BeginsNoCommand}
-use Rattle.sl_tool.specs.Texts.{broken_line, usage_line, no_file_line, folder_fault_line, input_fault_line, output_fault_line, no_memory_line, not_built_line}
-use Rattle.sl_tool.specs.Answer.{Answer, answer_of, run_status, run_line, c_name, with_file}
+use Rattle.sl_words.specs.Words.{Command, Run, Emit, Check, files_of, Reads, HasNoReading, BeginsNoCommand}
+use Rattle.sl_tool.specs.Texts.{emitted_line, accepted_line, usage_line, no_file_line, folder_fault_line, input_fault_line, output_fault_line, no_memory_line, not_built_line}
+use Rattle.sl_tool.specs.Answer.{Answer, AsksFor, IsVerdict, answer_of, line_of_broken, run_status, run_line, c_name, with_file}
 use Rattle.sl_tool.specs.Outside.{Outside, IsTold, FolderRose, InputRose, OutRose, NoteRose, NothingFailed}
 
 -- it is this status, or `Memory`, which may come at any time
 abbrev pub IsUnlessMemory : Status → Status → Type 0
 IsUnlessMemory status meant = (status ≡ meant) ⊎ (status ≡ Memory)
 
--- the sources are one plain file, with this program, that breaks no rule
-abbrev pub HaveProgram : List SourceFile → Plain → Type 0
-HaveProgram sources program = AreAccepted sources × ArePlain sources program
-
--- the files have under these names one plain file, with this program, that breaks no rule
+-- the files have sources under these names, which have trees, and these are one plain tree with this program
 abbrev pub HoldsPlain : Contents → List (List ℕ) → Plain → Type 0
-HoldsPlain files names program = (sources : List SourceFile) × AreSources files names sources × HaveProgram sources program
+HoldsPlain files names program = (sources : List SourceFile) × AreSources files names sources × HaveProgram sources (Some program)
 
 -- Complete ------------------------------------------------------------------------------------------------------------
 
@@ -53,7 +49,8 @@ pub record Did (answer : Answer) (before after : Outside) (status : Status) : Ty
 
 -- where nothing failed, the call did what `answer_of` says, or its status is `Memory`
 abbrev pub Complete : List (List ℕ) → Contents → List ℕ → Outside → Outside → Status → Type 0
-Complete words files input before after status = NothingFailed before after → Did (answer_of words files input) before after status ⊎ (status ≡ Memory)
+Complete words files input before after status =
+    (verdict : Verdict) → IsVerdict words files verdict → NothingFailed before after → Did (answer_of words files verdict input) before after status ⊎ (status ≡ Memory)
 
 -- 0 to 63, 64 to 67, 69 and 72: the statuses whose line, if they have one, was put whole
 abbrev pub IsFinal : Status → Type 0
@@ -68,7 +65,8 @@ IsFinal other = ⊥
 
 -- with such a status the call did what `answer_of` says, whatever the counts
 abbrev pub Finished : List (List ℕ) → Contents → List ℕ → Outside → Outside → Status → Type 0
-Finished words files input before after status = IsFinal status → Did (answer_of words files input) before after status
+Finished words files input before after status =
+    (verdict : Verdict) → IsVerdict words files verdict → IsFinal status → Did (answer_of words files verdict input) before after status
 
 -- Run -----------------------------------------------------------------------------------------------------------------
 
@@ -78,7 +76,7 @@ pub record RanAs (run : Outcome) (before after : Outside) (status : Status) : Ty
   pub printed_bytes : IfSome before.out.held (λ held. after.out.held ≡ Some (held ++ printed run.events))
   pub rest : IfSome before.input.left (λ _. after.input.left ≡ Some run.rest)
 
--- where nothing failed, `run` of one plain file prints, reads and ends as the program does, or its status is `Memory`
+-- where nothing failed, `run` of one plain tree prints, reads and ends as the program does, or its status is `Memory`
 abbrev pub Runs : List (List ℕ) → Contents → List ℕ → Outside → Outside → Status → Type 0
 Runs words files input before after status =
     (turns : ℕ) (names : List (List ℕ)) (program : Plain) → Reads words (Run turns names) → HoldsPlain files names program →
@@ -96,7 +94,7 @@ pub record IsCOf (program : Plain) (text : List ℕ) : Type 0 where
   pub means : (input : List ℕ) (turns : ℕ) → c_run tree None input turns ≡ plain_run program input turns
   pub no_turn : (input : List ℕ) → c_run tree None input 0 ≡ record { ending = ending.TurnsSpent; events = []; rest = input; left = 0 }
 
--- the C of a plain file was written under a name: where the folder tells its files, that name has just these bytes, and all
+-- the C of a plain tree was written under a name: where the folder tells its files, that name has just these bytes, and all
 -- others have what they had
 pub record WroteC (name : List ℕ) (names : List (List ℕ)) (files : Contents) (before after : Outside) : Type 0 where
   pub program : Plain
@@ -120,24 +118,19 @@ Emits words files before after status =
 abbrev pub AsksForNoFile : List (List ℕ) → Contents → List ℕ → Type 0
 AsksForNoFile words files name = (command : Command) × Reads words command × IsFirstMissing files (files_of command) name
 
--- the words ask for these sources, which are all there
-abbrev pub AsksFor : List (List ℕ) → Contents → List SourceFile → Type 0
-AsksFor words files sources = (command : Command) × Reads words command × AreSources files (files_of command) sources
+-- the words ask for sources of which this one is the first that breaks a rule, and this is the rule that it breaks first, and where
+abbrev pub AsksForBroken : List (List ℕ) → Contents → SourceFile → BrokenRule → Type 0
+AsksForBroken words files source broken = (sources : List SourceFile) × AsksFor words files sources × IsFirstBrokenOf sources source broken
 
--- the words ask for sources of which this one is the first that breaks a rule, and of the rules that it breaks this is the
--- first, at this place
-abbrev pub AsksForBroken : List (List ℕ) → Contents → SourceFile → Rule → ℕ → Type 0
-AsksForBroken words files source rule place = (sources : List SourceFile) × AsksFor words files sources × IsFirstBrokenOf sources source rule place
-
--- the words ask for sources that break no rule and aren't one plain file
+-- the words ask for sources that all have trees, which aren't one plain tree
 abbrev pub AsksForUnbuilt : List (List ℕ) → Contents → Type 0
-AsksForUnbuilt words files =
-    (sources : List SourceFile) × AsksFor words files sources × AreAccepted sources × ((program : Plain) → ¬ ArePlain sources program)
+AsksForUnbuilt words files = (sources : List SourceFile) × AsksFor words files sources × HaveProgram sources None
 
--- the status with which a command ends on a plain program: that of the program's run, and 0 for `emit`
+-- the status with which a command ends on a plain program: that of the program's run, and 0 for `emit` and `check`
 abbrev pub ends_with : Command → Plain → List ℕ → Status
 ends_with (Run turns names) program input = run_status (plain_run program input turns).ending
 ends_with (Emit name names) program input = Exit 0
+ends_with (Check names) program input = Exit 0
 
 -- the words ask for something that ends so
 abbrev pub EndsWith : List (List ℕ) → Contents → List ℕ → Status → Type 0
@@ -153,7 +146,7 @@ Cause words files input before after FolderFault = FolderRose before after
 Cause words files input before after SinkFault = OutRose before after ⊎ NoteRose before after
 Cause words files input before after Memory = Unit {0}
 Cause words files input before after NotBuilt = AsksForUnbuilt words files
-Cause words files input before after Broken = (source : SourceFile) × (rule : Rule) × (place : ℕ) × AsksForBroken words files source rule place
+Cause words files input before after Broken = (source : SourceFile) × (broken : BrokenRule) × AsksForBroken words files source broken
 Cause words files input before after Halted = EndsWith words files input Halted
 Cause words files input before after TurnsSpent = EndsWith words files input TurnsSpent
 Cause words files input before after ExitValue = EndsWith words files input ExitValue
@@ -169,7 +162,7 @@ pub record Comes (words : List (List ℕ)) (files : Contents) (input : List ℕ)
   pub usage : HasNoReading words → ¬ NoteRose before after → IsUnlessMemory status Usage
   pub at_once : BeginsNoCommand words → (status ≡ Usage) ⊎ ((status ≡ SinkFault) × NoteRose before after)
   pub no_file : (name : List ℕ) → AsksForNoFile words files name → ¬ FolderRose before after → ¬ NoteRose before after → IsUnlessMemory status NoFile
-  pub broken : (source : SourceFile) (rule : Rule) (place : ℕ) → AsksForBroken words files source rule place → ¬ FolderRose before after → ¬ NoteRose before after → IsUnlessMemory status Broken
+  pub broken : (source : SourceFile) (broken : BrokenRule) → AsksForBroken words files source broken → ¬ FolderRose before after → ¬ NoteRose before after → IsUnlessMemory status Broken
   pub not_built : AsksForUnbuilt words files → ¬ FolderRose before after → IsUnlessMemory status NotBuilt
   pub ends : (meant : Status) → EndsWith words files input meant → ¬ FolderRose before after → ¬ InputRose before after → ¬ OutRose before after → ¬ NoteRose before after → IsUnlessMemory status meant
   pub exit : (value : ℕ) → EndsWith words files input (Exit value) → ¬ FolderRose before after → ¬ InputRose before after → ¬ OutRose before after → IsUnlessMemory status (Exit value)
@@ -262,8 +255,8 @@ pub record AskedAndWrote (names : List (List ℕ)) (name bytes : List ℕ) (resu
 -- read, and both break the same rule first
 abbrev pub HoldsBroken : Contents → List (List ℕ) → (read : List SourceFile) → Type 0
 HoldsBroken files names read =
-    (sources : List SourceFile) × (source : SourceFile) × (rule : Rule) × (place : ℕ)
-    × AreSources files names sources × IsFirstBrokenOf sources source rule place × IsFirstBrokenOf read source rule place
+    (sources : List SourceFile) × (source : SourceFile) × (broken : BrokenRule)
+    × AreSources files names sources × IsFirstBrokenOf sources source broken × IsFirstBrokenOf read source broken
 
 -- the names were asked for up to one that isn't there. It is the first of the files that isn't there
 abbrev pub ReadMissing : List (List ℕ) → Contents → FolderState → FolderState → Type 0
@@ -273,19 +266,15 @@ ReadMissing names files before after = (name : List ℕ) × IsFirstMissing files
 abbrev pub ReadBroken : List (List ℕ) → Contents → FolderState → FolderState → Type 0
 ReadBroken names files before after = (asked : AskedAll names before after) × HoldsBroken files names asked.sources
 
--- all names were asked for, and what was read breaks no rule and isn't one plain file
-abbrev pub ReadUnbuilt : List (List ℕ) → FolderState → FolderState → Type 0
-ReadUnbuilt names before after = (asked : AskedAll names before after) × AreAccepted asked.sources × ((program : Plain) → ¬ ArePlain asked.sources program)
-
--- all names were asked for, and what was read is one plain file with this program, that breaks no rule
-abbrev pub ReadProgram : List (List ℕ) → Plain → FolderState → FolderState → Type 0
+-- all names were asked for, and what was read has trees, which are one plain tree with this program, or aren't one
+abbrev pub ReadProgram : List (List ℕ) → Option Plain → FolderState → FolderState → Type 0
 ReadProgram names program before after = (asked : AskedAll names before after) × HaveProgram asked.sources program
 
 -- how the names were asked for where the command stopped before it ran or wrote anything, by the status. The folder isn't called
 -- where memory runs out in reading the words
 abbrev pub Stopped : List (List ℕ) → Contents → Outside → Outside → Status → Type 0
 Stopped names files before after Broken = ReadBroken names files before.folder after.folder
-Stopped names files before after NotBuilt = ReadUnbuilt names before.folder after.folder
+Stopped names files before after NotBuilt = ReadProgram names None before.folder after.folder
 Stopped names files before after NoFile = ReadMissing names files before.folder after.folder
 Stopped names files before after FolderFault = (name : List ℕ) × AskedUpTo names name (Err refused.Failed) before.folder after.folder
 Stopped names files before after SinkFault =
@@ -316,39 +305,56 @@ Went input run before after SinkFault =
 Went input run before after Memory = (events : List Event) × BeginsWith run events × Done input events before after
 Went input run before after other = ⊥
 
--- what `run` did to the outside: it stopped before it ran anything, or it asked for all its files, which are one plain file, and then
--- ran its program, which is that of what was read too
+-- what `run` did to the outside: it stopped before it ran anything, or it asked for all its files, whose trees are one plain tree, and
+-- then ran its program, which is that of what was read too
 abbrev pub RunDid : (turns : ℕ) → List (List ℕ) → Contents → List ℕ → Outside → Outside → Status → Type 0
 RunDid turns names files input before after status =
     (Stopped names files before after status × (after.out ≡ before.out) × (after.input ≡ before.input))
-    ⊎ ((program : Plain) × HoldsPlain files names program × ReadProgram names program before.folder after.folder × Went input (plain_run program input turns) before after status)
+    ⊎ ((program : Plain) × HoldsPlain files names program × ReadProgram names (Some program) before.folder after.folder × Went input (plain_run program input turns) before after status)
 
--- `emit` asked for all its files and then wrote the C of their program, which is that of what was read too, and the folder answered so
-abbrev pub Wrote : List ℕ → List (List ℕ) → Contents → Result (Unit {0}) Refused → Outside → Outside → Type 0
-Wrote name names files result before after =
-    (program : Plain) × HoldsPlain files names program
-    × (wrote : AskedAndWrote names (c_name name) (written program) result before.folder after.folder) × HaveProgram wrote.sources program
+-- `emit` asked for all its files and then wrote the C of this program, which is that of what was read too, and the folder answered so
+abbrev pub Wrote : List ℕ → List (List ℕ) → Contents → Plain → Result (Unit {0}) Refused → Outside → Outside → Type 0
+Wrote name names files program result before after =
+    HoldsPlain files names program
+    × (wrote : AskedAndWrote names (c_name name) (written program) result before.folder after.folder) × HaveProgram wrote.sources (Some program)
 
--- How `emit` wrote the C, by one call, and then put its line on `out`, by one call, by the status. Where the write was refused,
--- nothing was put, and the folder may have left anything under that name for a fault, and has changed nothing for want of memory
-abbrev pub WroteAndTold : List ℕ → List (List ℕ) → Contents → Answer → Outside → Outside → Status → Type 0
-WroteAndTold name names files answer before after (Exit value) = Wrote name names files (Ok tt) before after × Put answer.out before.out after.out (Ok tt)
-WroteAndTold name names files answer before after SinkFault = Wrote name names files (Ok tt) before after × Put answer.out before.out after.out (Err (record {}))
-WroteAndTold name names files answer before after FolderFault = Wrote name names files (Err refused.Failed) before after × (after.out ≡ before.out)
-WroteAndTold name names files answer before after Memory = Wrote name names files (Err refused.Mem) before after × (after.out ≡ before.out)
-WroteAndTold name names files answer before after other = ⊥
+-- How `emit` wrote the C of a program, by one call, and then put its line on `out`, by one call, by the status. Where the write was
+-- refused, nothing was put, and the folder may have left anything under that name for a fault, and has changed nothing for want of
+-- memory
+abbrev pub WroteAndTold : List ℕ → List (List ℕ) → Contents → Plain → Outside → Outside → Status → Type 0
+WroteAndTold name names files program before after (Exit value) =
+    Wrote name names files program (Ok tt) before after × Put (emitted_line (c_name name) (written program)) before.out after.out (Ok tt)
+WroteAndTold name names files program before after SinkFault =
+    Wrote name names files program (Ok tt) before after × Put (emitted_line (c_name name) (written program)) before.out after.out (Err (record {}))
+WroteAndTold name names files program before after FolderFault = Wrote name names files program (Err refused.Failed) before after × (after.out ≡ before.out)
+WroteAndTold name names files program before after Memory = Wrote name names files program (Err refused.Mem) before after × (after.out ≡ before.out)
+WroteAndTold name names files program before after other = ⊥
 
--- what `emit` did to the folder and to `out`: it stopped before it wrote anything, or it wrote the C and then told it
-abbrev pub EmitDid : List ℕ → List (List ℕ) → Contents → Answer → Outside → Outside → Status → Type 0
-EmitDid name names files answer before after status =
-    (Stopped names files before after status × (after.out ≡ before.out)) ⊎ WroteAndTold name names files answer before after status
+-- what `emit` did to the folder and to `out`: it stopped before it wrote anything, or it wrote the C of a program and then told it
+abbrev pub EmitDid : List ℕ → List (List ℕ) → Contents → Outside → Outside → Status → Type 0
+EmitDid name names files before after status =
+    (Stopped names files before after status × (after.out ≡ before.out)) ⊎ ((program : Plain) × WroteAndTold name names files program before after status)
+
+-- how `check` put its line on `out`, by one call, by the status
+abbrev pub ToldAccepted : Outside → Outside → Status → Type 0
+ToldAccepted before after (Exit value) = Put accepted_line before.out after.out (Ok tt)
+ToldAccepted before after SinkFault = Put accepted_line before.out after.out (Err (record {}))
+ToldAccepted before after other = ⊥
+
+-- what `check` did to the folder and to `out`: it stopped before it told anything, or it asked for all its files, whose trees are one
+-- plain tree, as those of what was read are, and then told that they are accepted
+abbrev pub CheckDid : List (List ℕ) → Contents → Outside → Outside → Status → Type 0
+CheckDid names files before after status =
+    (Stopped names files before after status × (after.out ≡ before.out))
+    ⊎ ((program : Plain) × HoldsPlain files names program × ReadProgram names (Some program) before.folder after.folder × ToldAccepted before after status)
 
 -- what a call did to the folder, to the input and to `out`: nothing where the words have no reading, and else what the command
--- does. `emit` asks for no input
-pub record Acts (words : List (List ℕ)) (files : Contents) (input : List ℕ) (answer : Answer) (before after : Outside) (status : Status) : Type 0 where
+-- does. `emit` and `check` ask for no input, and `check` writes no file
+pub record Acts (words : List (List ℕ)) (files : Contents) (input : List ℕ) (before after : Outside) (status : Status) : Type 0 where
   pub none : HasNoReading words → (after.folder ≡ before.folder) × (after.input ≡ before.input) × (after.out ≡ before.out)
   pub run : (turns : ℕ) (names : List (List ℕ)) → Reads words (Run turns names) → RunDid turns names files input before after status
-  pub emit : (name : List ℕ) (names : List (List ℕ)) → Reads words (Emit name names) → EmitDid name names files answer before after status × (after.input ≡ before.input)
+  pub emit : (name : List ℕ) (names : List (List ℕ)) → Reads words (Emit name names) → EmitDid name names files before after status × (after.input ≡ before.input)
+  pub check : (names : List (List ℕ)) → Reads words (Check names) → CheckDid names files before after status × (after.input ≡ before.input)
 
 -- the line of a run that ended so, with this status
 abbrev pub IsRunLine : List (List ℕ) → Contents → List ℕ → Status → List ℕ → Type 0
@@ -360,8 +366,7 @@ IsRunLine words files input status line =
 abbrev pub IsLineOf : List (List ℕ) → Contents → List ℕ → Status → List ℕ → Type 0
 IsLineOf words files input Usage line = HasNoReading words × (line ≡ usage_line)
 IsLineOf words files input Broken line =
-    (source : SourceFile) × (rule : Rule) × (place : ℕ) × AsksForBroken words files source rule place
-    × (line ≡ broken_line source.name (line_of source.bytes place) (column_of source.bytes place) rule)
+    (source : SourceFile) × (broken : BrokenRule) × AsksForBroken words files source broken × (line ≡ line_of_broken source broken)
 IsLineOf words files input NoFile line = (name : List ℕ) × AsksForNoFile words files name × (line ≡ no_file_line name)
 IsLineOf words files input Halted line = IsRunLine words files input Halted line
 IsLineOf words files input TurnsSpent line = IsRunLine words files input TurnsSpent line
@@ -398,19 +403,20 @@ pub record Keeps (words : List (List ℕ)) (files : Contents) (input : List ℕ)
   -- where nothing failed, and with 0 to 63, 64 to 67, 69 and 72 in any case, the call did what `answer_of` says, or its status is `Memory`
   pub complete : Complete words files input before after status
   pub finished : Finished words files input before after status
-  -- where nothing failed, a plain file's run is that of its program, or the status is `Memory`
+  -- where nothing failed, the run of one plain tree is that of its program, or the status is `Memory`
   pub run : Runs words files input before after status
   -- where `emit` ended with 0, or by a fault of `out`, the folder has C that means the program
   pub bytes_written : Emits words files before after status
-  -- each status comes only with its cause, and where its cause stands: 65 exactly where all sources are there and one breaks a rule
+  -- each status comes only with its cause, and where its cause stands: 65 exactly where all sources are there and one breaks a rule of
+  -- L or G, and 77 exactly where all have trees, which aren't one plain tree
   pub cause : Cause words files input before after status
   pub comes : Comes words files input before after status
   -- the status shows a fault
   pub hides_no_fault : HidesNoFault before after status
   pub counts : CountsGrow before after
   -- what stands after the call, whatever its status, and by which calls it came there
-  pub stands : GoesNoFurther (answer_of words files input) input before after
-  pub acts : Acts words files input (answer_of words files input) before after status
+  pub stands : (verdict : Verdict) → IsVerdict words files verdict → GoesNoFurther (answer_of words files verdict input) input before after
+  pub acts : Acts words files input before after status
   pub noted : Noted words files input before after status
 
 -- the contract of `slang`

@@ -1,12 +1,12 @@
--- The files that a command names, as sources: which are there, which rule is broken first, and what program they hold.
+-- The files that a command names, as sources: which are there, what comes of reading them, and what program they hold.
 use Rattle.std.specs.Prelude.{◌≡◌, ℕ, List, [], ◌∷◌, ◌++◌, map, Option, Some, None, Result, Ok, Err}
 use Rattle.std.specs.List.{All}
 use Rattle.sl_outside.specs.Folder.{Contents}
-use Rattle.sl_text.specs.declared.rule.Rule.{Rule}
-use Rattle.sl_plain.specs.declared.tree.Plain.{Plain}
-use Rattle.sl_plain.specs.Plain.{IsPlain}
-use Rattle.sl_plain.specs.PlainReading.{plain_of}
-use Rattle.sl_tool.specs.Accepting.{IsAccepted, IsFirstBroken, first_broken}
+use Rattle.sl_text.specs.declared.fault.Broken.{Broken}
+use Rattle.sl_tree.specs.declared.tree.File.{File}
+use Rattle.sl_plain.specs.declared.program.Plain.{Plain}
+use Rattle.sl_plain.specs.Reading.{plain_of}
+use Rattle.sl_tool.specs.Accepting.{HasTree, IsFirstBroken}
 
 -- a file that was named, and its bytes
 pub record SourceFile : Type 0 where
@@ -32,21 +32,48 @@ IsFirstMissing files names name =
     (earlier : List (List ℕ)) × (later : List (List ℕ)) × (names ≡ earlier ++ name ∷ later)
     × All (λ other. IsThere files other) earlier × (files name ≡ None)
 
--- no source breaks a rule
-abbrev pub AreAccepted : List SourceFile → Type 0
-AreAccepted sources = All (λ source. IsAccepted source.bytes) sources
+-- Verdicts -------------------------------------------------------------------------------------------------------------
 
--- of the sources, this is the first that breaks a rule, and of the rules that it breaks this one is the first, at this place
-abbrev pub IsFirstBrokenOf : List SourceFile → SourceFile → Rule → ℕ → Type 0
-IsFirstBrokenOf sources source rule place =
-    (earlier : List SourceFile) × (later : List SourceFile) × (sources ≡ earlier ++ source ∷ later)
-    × AreAccepted earlier × IsFirstBroken source.bytes rule place
+-- the number with which a source is read. So far each is read by itself, as the only file of a program
+abbrev pub only_file : ℕ
+only_file = 0
 
--- the sources are one plain file with this program
-abbrev pub ArePlain : List SourceFile → Plain → Type 0
-ArePlain sources program = (source : SourceFile) × (sources ≡ source ∷ []) × IsPlain source.bytes program
+-- the sources have these trees, in order
+abbrev pub HaveTrees : List SourceFile → List File → Type 0
+HaveTrees [] [] = Unit {0}
+HaveTrees [] (tree ∷ trees) = ⊥
+HaveTrees (source ∷ sources) [] = ⊥
+HaveTrees (source ∷ sources) (tree ∷ trees) = HasTree only_file source.bytes tree × HaveTrees sources trees
 
--- How it is found -----------------------------------------------------------------------------------------------------
+-- of the sources, this is the first that has no tree, and this is the rule that it breaks first, and where
+abbrev pub IsFirstBrokenOf : List SourceFile → SourceFile → Broken → Type 0
+IsFirstBrokenOf sources source broken =
+    (earlier : List SourceFile) × (later : List SourceFile) × (trees : List File) × (sources ≡ earlier ++ source ∷ later)
+    × HaveTrees earlier trees × IsFirstBroken only_file source.bytes broken
+
+-- what comes of reading sources
+pub data Verdict : Type 0 where
+  -- this is the first source that breaks a rule, and this is the rule, and where
+  Breaks : (source : SourceFile) (broken : Broken) → Verdict
+  -- all have trees
+  Trees : (trees : List File) → Verdict
+
+-- this comes of reading these sources. There is one such verdict at most (`one_verdict` of proofs/Judged.antt)
+abbrev pub Judged : List SourceFile → Verdict → Type 0
+Judged sources (Breaks source broken) = IsFirstBrokenOf sources source broken
+Judged sources (Trees trees) = HaveTrees sources trees
+
+-- the program of the one tree, where there is one and it is plain
+abbrev pub program_of : List File → Option Plain
+program_of [] = None
+program_of (tree ∷ []) = plain_of tree
+program_of (tree ∷ other ∷ trees) = None
+
+-- the sources have trees, which are one plain tree with this program; or aren't one plain tree
+abbrev pub HaveProgram : List SourceFile → Option Plain → Type 0
+HaveProgram sources program = (trees : List File) × HaveTrees sources trees × (program_of trees ≡ program)
+
+-- How sources are found -------------------------------------------------------------------------------------------------
 
 -- a source before others, or the name of a file that isn't there
 abbrev pub with_source : List ℕ → Option (List ℕ) → Result (List SourceFile) (List ℕ) → Result (List SourceFile) (List ℕ)
@@ -58,19 +85,3 @@ with_source name (Some bytes) (Err missing) = Err missing
 abbrev pub sources_of : Contents → List (List ℕ) → Result (List SourceFile) (List ℕ)
 sources_of files [] = Ok []
 sources_of files (name ∷ names) = with_source name (files name) (sources_of files names)
-
--- a source with a rule, or what is found behind it
-abbrev pub broken_or : SourceFile → Option Rule → Option (SourceFile × Rule) → Option (SourceFile × Rule)
-broken_or source (Some rule) behind = Some (source, rule)
-broken_or source None behind = behind
-
--- the first source that breaks a rule, and the first rule that it breaks
-abbrev pub first_broken_of : List SourceFile → Option (SourceFile × Rule)
-first_broken_of [] = None
-first_broken_of (source ∷ sources) = broken_or source (first_broken source.bytes) (first_broken_of sources)
-
--- the program of the one source, if it is plain
-abbrev pub program_of : List SourceFile → Option Plain
-program_of [] = None
-program_of (source ∷ []) = plain_of source.bytes
-program_of (source ∷ other ∷ sources) = None

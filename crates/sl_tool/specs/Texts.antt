@@ -1,4 +1,4 @@
--- The lines of the tool, each ended by a line feed: that of `emit` on `out`, and those that go with the statuses on `note`.
+-- The lines of the tool, each ended by a line feed: those of `emit` and `check` on `out`, and those that go with the statuses on `note`.
 use Rattle.std.specs.Prelude.{ℕ, ℤ, List, [], ◌++◌, length, unwrap_or, slice_get, ◌==◌, if◌then◌else◌, codes}
 use Rattle.std.specs.Fmt.{decimal, signed_decimal}
 use Rattle.sl_text.specs.declared.rule.Rule.{Rule}
@@ -10,6 +10,10 @@ use Rattle.sl_text.specs.Rules.{rule_text}
 -- `emit`: the name of the file that was written, and how many bytes it has
 abbrev pub emitted_line : List ℕ → List ℕ → List ℕ
 emitted_line file text = file ++ codes " " ++ decimal (length text) ++ codes " bytes\n"
+
+-- `check`: the files are accepted
+abbrev pub accepted_line : List ℕ
+accepted_line = codes "accepted\n"
 
 -- 64: the words have no reading
 abbrev pub usage_line : List ℕ

@@ -7,7 +7,7 @@ use Rattle.c_tree.specs.WellFormed.{IsWellFormed}
 use Rattle.c_tree.specs.Meaning.{c_run}
 use Rattle.c_write.specs.Layout.{text_of}
 use Rattle.sl_frames.specs.Translated.{c_of}
-use Rattle.sl_plain.specs.declared.tree.Plain.{Plain}
+use Rattle.sl_plain.specs.declared.program.Plain.{Plain}
 use Rattle.sl_plain.specs.Lowered.{core_of}
 use Rattle.sl_plain.specs.Means.{plain_run}
 

@@ -1,34 +1,16 @@
 // The rules that a source keeps or breaks.
-ghost use Rattle.std.specs.Prelude.{◌≡◌};
-ghost use Rattle.sl_tool.specs.Accepting.{first_broken, lexical};
+ghost use Rattle.sl_tool.specs.Accepting.{IsRead};
 
-use sl_text::{Phase, Rule};
+use sl_parse::parse;
+use sl_text::Fault;
+use sl_token::tokens;
+use sl_tree::File;
+use std::alloc::Global;
 
-/// The comment with which every source begins.
-const MARK: &[u8] = b"// #Sireum";
-
-/// The most bytes that a source may have.
-const GREATEST_LENGTH: usize = 4_194_304;
-
-/// The first rule that a source breaks, which stands at its first byte: L1 where it doesn't begin with the mark, and L7 where it
-/// is too long.
-pub fn first_broken(bytes: &[u8]) -> Option<Rule>
-    ensures { result ≡ first_broken bytes.now }
+/// The tree of the file of this number, or the first rule that it breaks.
+pub fn read_tree(alloc: Global, file: u32, bytes: &[u8]) -> Result<File, Fault>
+    ensures { IsRead file bytes.now result }
 {
-    if !bytes.starts_with(MARK) {
-        Some(lexical(1))
-    } else if bytes.len() > GREATEST_LENGTH {
-        Some(lexical(7))
-    } else {
-        None
-    }
-}
-
-fn lexical(number: u8) -> Rule
-    ensures { result ≡ lexical number }
-{
-    Rule {
-        phase: Phase::L,
-        number,
-    }
+    let tokens = tokens(alloc, file, bytes)?;
+    parse(alloc, file, bytes, tokens.as_slice())
 }

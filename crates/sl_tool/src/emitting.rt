@@ -5,8 +5,7 @@ ghost use Rattle.sl_outside.specs.Folder.{folder_state};
 ghost use Rattle.sl_outside.specs.Sink.{sink_state};
 ghost use Rattle.c_tree.specs.Text.{CText};
 ghost use Rattle.c_write.specs.Lined.{lined};
-ghost use Rattle.sl_plain.specs.Plain.{IsProgram};
-ghost use Rattle.sl_plain.specs.Reach.{IsInReach};
+ghost use Rattle.sl_plain.specs.Program.{IsProgram};
 ghost use Rattle.sl_tool.specs.Written.{tree_of, written, IsTreeOf};
 ghost use Rattle.sl_tool.specs.Texts.{emitted_line};
 ghost use Rattle.sl_words.specs.WordsReading.{names_seen};
@@ -58,8 +57,7 @@ fn line_of(alloc: Global, target: &str, text: &[u8]) -> Result<String, Mem>
 
 /// The C text of a program.
 fn c_text(alloc: Global, program: &Plain) -> Result<Row<u8>, Mem>
-    requires program { IsProgram program.now }
-    requires reach { IsInReach program.now }
+    requires { IsProgram program.now }
     ensures text { IfOk result (λ text. text ≡ written program.now) }
     ensures means { IfOk result (λ text. IsTreeOf program.now (tree_of program.now)) }
     ensures reads { IfOk result (λ text. CText (written program.now) (lined (tree_of program.now))) }

@@ -9,6 +9,7 @@ ghost use Rattle.sl_tool.specs.Outside.{outside};
 ghost use Rattle.sl_tool.specs.Promise.{Promise};
 
 mod accepting;
+mod checking;
 mod emitting;
 mod running;
 mod source;
@@ -17,6 +18,7 @@ mod stop;
 mod telling;
 mod translating;
 
+use checking::check_files;
 use emitting::emit_files;
 use running::run_files;
 use sl_outside::{Folder, Sink, Source};
@@ -25,7 +27,8 @@ pub use status::Status;
 use std::alloc::Global;
 use telling::{tell_end, tell_no_memory, tell_stop, tell_usage};
 
-/// Does what the words after the program's name ask for. `run [--turns N] FILE..` reads the files from `folder`, and runs their
+/// Does what the words after the program's name ask for. `check FILE..` reads the files from `folder`, and puts the line `accepted` on
+/// `out` where their trees are one plain tree. `run [--turns N] FILE..` reads the files from `folder`, and runs their
 /// program in at most N turns: what it prints is put on `out`, a byte at a time, and each byte that it reads is asked of `input`.
 /// `emit -o NAME FILE..` reads the files, writes the C of their program under `NAME.c` by one call, and puts the line
 /// `NAME.c B bytes` on `out`, where B is the length of the C. Where the status isn't 0 to 63, its line is put on `note`;
@@ -68,6 +71,12 @@ pub fn slang<F: Folder, S: Source, K: Sink, N: Sink>(
         }
         Command::Emit { name, files } => {
             match emit_files(alloc, name, files.as_slice(), folder, out) {
+                Ok(()) => Status::Exit(0),
+                Err(stop) => tell_stop(alloc, stop, note),
+            }
+        }
+        Command::Check { files } => {
+            match check_files(alloc, files.as_slice(), folder, out) {
                 Ok(()) => Status::Exit(0),
                 Err(stop) => tell_stop(alloc, stop, note),
             }

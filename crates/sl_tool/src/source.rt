@@ -1,17 +1,22 @@
 // The files that a command names, and the program in them.
-ghost use Rattle.std.specs.Prelude.{◌≡◌, IfOk};
+ghost use Rattle.std.specs.Prelude.{◌≡◌, ◌≤◌, ◌⊎◌, IfOk, length};
 ghost use Rattle.sl_outside.specs.Counts.{HasCause};
 ghost use Rattle.sl_outside.specs.Folder.{folder_state};
-ghost use Rattle.sl_tool.specs.SourceFiles.{first_broken_of, program_of};
+ghost use Rattle.sl_text.specs.Places.{line_of, column_of};
+ghost use Rattle.sl_token.specs.Cut.{most_bytes};
 ghost use Rattle.sl_words.specs.WordsReading.{names_seen};
-ghost use Rattle.sl_tool.specs.Parts.{broken_name, broken_seen, ReadsProgram, ReadsSources, is_folder_fault, sources_seen};
+ghost use Rattle.sl_tool.specs.Parts.{GivesProgram, GivesTree, GivesTrees, ReadsProgram, ReadsSources, is_folder_fault, source_seen, sources_seen};
 
-use crate::accepting::first_broken;
+use crate::accepting::read_tree;
 use crate::stop::Stop;
 use sl_outside::Folder;
 use sl_plain::{Plain, read_plain};
-use sl_text::{Mem, Row, Rule};
+use sl_text::{Fault, Lines, Mem, Row};
+use sl_tree::File;
 use std::alloc::Global;
+
+/// The number with which a source is read. So far each is read by itself, as the only file of a program.
+const ONLY_FILE: u32 = 0;
 
 /// A file that a command names, and its bytes.
 #[derive(Debug, Drop)]
@@ -20,7 +25,7 @@ pub struct SourceFile<'a> {
     pub bytes: Row<u8>,
 }
 
-/// Reads the program in files that break no rule. All of them are read before anything else is asked of any.
+/// Reads the program of files whose trees are one plain tree. All of them are read before anything else is asked of any.
 pub fn read_program<'a, F: Folder>(
     alloc: Global,
     names: &[&'a str],
@@ -33,12 +38,9 @@ pub fn read_program<'a, F: Folder>(
     ensures cause { HasCause (is_folder_fault result) (F.faults folder.old) (F.faults folder.new) }
 {
     let sources = read_sources(alloc, names, folder)?;
-    match first_broken_of(sources.as_slice()) {
-        Some((name, rule)) => Err(Stop::Broken(name, rule)),
-        None => match program_of(alloc, sources.as_slice())? {
-            Some(program) => Ok(program),
-            None => Err(Stop::NotBuilt),
-        },
+    match program_of(alloc, sources.as_slice())? {
+        Some(program) => Ok(program),
+        None => Err(Stop::NotBuilt),
     }
 }
 
@@ -64,24 +66,54 @@ fn read_sources<'a, F: Folder>(
     Ok(sources)
 }
 
-/// The name of the first source that breaks a rule, and the first rule that it breaks.
-fn first_broken_of<'a>(sources: &[SourceFile<'a>]) -> Option<(&'a str, Rule)>
-    ensures { broken_name (first_broken_of (sources_seen sources.now)) ≡ broken_seen result }
-{
-    for source in sources {
-        if let Some(rule) = first_broken(source.bytes.as_slice()) {
-            return Some((source.name, rule));
-        }
-    }
-    None
-}
-
-/// The program of the one source, if it is plain.
-fn program_of(alloc: Global, sources: &[SourceFile<'_>]) -> Result<Option<Plain>, Mem>
-    ensures { IfOk result (λ program. program ≡ program_of (sources_seen sources.now)) }
+/// The program of sources that have trees, where these are one plain tree.
+fn program_of<'a>(alloc: Global, sources: &[SourceFile<'a>]) -> Result<Option<Plain>, Stop<'a>>
+    ensures { GivesProgram (sources_seen sources.now) result }
 {
     match sources {
-        [source] => read_plain(alloc, source.bytes.as_slice()),
-        _ => Ok(None),
+        [source] => {
+            let tree = tree_of(alloc, source)?;
+            Ok(read_plain(alloc, &tree)?)
+        }
+        _ => {
+            have_trees(alloc, sources)?;
+            Ok(None)
+        }
     }
+}
+
+/// Reads the trees of sources, in order, and keeps none of them.
+fn have_trees<'a>(alloc: Global, sources: &[SourceFile<'a>]) -> Result<(), Stop<'a>>
+    ensures { GivesTrees (sources_seen sources.now) result }
+{
+    for source in sources {
+        let _tree = tree_of(alloc, source)?;
+    }
+    Ok(())
+}
+
+/// The tree of a source, if it breaks no rule.
+fn tree_of<'a>(alloc: Global, source: &SourceFile<'a>) -> Result<File, Stop<'a>>
+    ensures { GivesTree (source_seen source.now) result }
+{
+    let bytes = source.bytes.as_slice();
+    match read_tree(alloc, ONLY_FILE, bytes) {
+        Ok(tree) => Ok(tree),
+        Err(Fault::Mem) => Err(Stop::Mem),
+        Err(Fault::Broken(broken)) => {
+            let (line, column) = line_and_column(alloc, bytes, broken.span.from)?;
+            Err(Stop::Broken(source.name, broken.rule, line, column))
+        }
+    }
+}
+
+/// The line and the column of a place in a file. A place behind the end has those of the end.
+fn line_and_column(alloc: Global, bytes: &[u8], place: u32) -> Result<(u32, u32), Mem>
+    requires { (place ≡ 0) ⊎ (length bytes.now ≤ most_bytes) }
+    ensures line { IfOk result (λ at. at.0 ≡ line_of bytes.now place) }
+    ensures column { IfOk result (λ at. at.1 ≡ column_of bytes.now place) }
+{
+    let end = bytes.len().min(place as usize);
+    let lines = Lines::new(alloc, &bytes[..end])?;
+    Ok(lines.at(end as u32))
 }

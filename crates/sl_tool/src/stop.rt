@@ -10,9 +10,9 @@ pub enum Stop<'a> {
     /// The file of this name isn't there.
     #[error("no file {0}")]
     NoFile(&'a str),
-    /// The file of this name breaks this rule.
-    #[error("{0} breaks {1}")]
-    Broken(&'a str, Rule),
+    /// The file of this name breaks this rule, at this line and this column.
+    #[error("{0} breaks {1} at {2}:{3}")]
+    Broken(&'a str, Rule, u32, u32),
     #[error("not built")]
     NotBuilt,
     #[error("folder fault")]

@@ -77,7 +77,9 @@ pub fn tell_stop<N: Sink>(alloc: Global, stop: Stop<'_>, note: &mut N) -> Status
 {
     match stop {
         Stop::NoFile(name) => tell_no_file(alloc, name, note),
-        Stop::Broken(name, rule) => tell_broken(alloc, name, rule, note),
+        Stop::Broken(name, rule, line, column) => {
+            tell_broken(alloc, name, rule, line, column, note)
+        }
         Stop::NotBuilt => try_line(note, Status::NotBuilt, NOT_BUILT),
         Stop::Folder => try_line(note, Status::FolderFault, FOLDER_FAULT),
         Stop::Input => try_line(note, Status::InputFault, INPUT_FAULT),
@@ -161,13 +163,20 @@ fn tell_no_file<N: Sink>(alloc: Global, name: &str, note: &mut N) -> Status
     }
 }
 
-/// Tells that a source breaks a rule, at its first byte.
-fn tell_broken<N: Sink>(alloc: Global, name: &str, rule: Rule, note: &mut N) -> Status
-    ensures { MakesAndTells (broken_line name.now 1 1 rule) status.Broken
+/// Tells that a source breaks a rule, at this line and this column.
+fn tell_broken<N: Sink>(
+    alloc: Global,
+    name: &str,
+    rule: Rule,
+    line: u32,
+    column: u32,
+    note: &mut N,
+) -> Status
+    ensures { MakesAndTells (broken_line name.now line column rule) status.Broken
         (sink_state (N.held note.old) (N.faults note.old) (N.calls note.old))
         (sink_state (N.held note.new) (N.faults note.new) (N.calls note.new)) result }
 {
-    match format!(in alloc; "{name}:1:1: {rule}\n") {
+    match format!(in alloc; "{name}:{line}:{column}: {rule}\n") {
         Ok(line) => put_line(note, Status::Broken, line.as_bytes()),
         Err(_) => tell_no_memory(note),
     }

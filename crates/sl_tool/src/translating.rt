@@ -1,7 +1,6 @@
 // A plain program as C.
 ghost use Rattle.std.specs.Prelude.{◌≡◌, IfOk};
-ghost use Rattle.sl_plain.specs.Plain.{IsProgram};
-ghost use Rattle.sl_plain.specs.Reach.{IsInReach};
+ghost use Rattle.sl_plain.specs.Program.{IsProgram};
 ghost use Rattle.sl_tool.specs.Written.{tree_of, IsTreeOf};
 
 use c_tree::CFile;
@@ -12,8 +11,7 @@ use std::alloc::Global;
 
 /// The tree of the C of a program.
 pub fn translate(alloc: Global, program: &Plain) -> Result<CFile, Mem>
-    requires program { IsProgram program.now }
-    requires reach { IsInReach program.now }
+    requires { IsProgram program.now }
     ensures value { IfOk result (λ tree. tree ≡ tree_of program.now) }
     ensures means { IfOk result (λ tree. IsTreeOf program.now (tree_of program.now)) }
 {

@@ -10,8 +10,8 @@ use Rattle.std.proofs.lemmas.Bool.Decides.{Decides-eqb}
 use Rattle.std.proofs.lemmas.List.Elements.{All-head, All-tail, All-nil, All-cons}
 use Rattle.std.proofs.lemmas.List.{append-nil}
 use Rattle.std.proofs.lemmas.Option.{cond_some, option_and_then_some}
-use Rattle.sl_words.specs.Words.{Command, Run, Emit, most_files, default_turns, AreEnough, IsPlainWord, IsJoined, IsShort, value_options, Part, File, Given, GivesValue, IsPart, AreParts, HasParts, files_in, options_in, Gives, AreTurns, Reads, HasNoReading, BeginsNoCommand}
-use Rattle.sl_words.specs.WordsReading.{is_plain, Kind, IsFile, Waits, HasValue, IsDashes, IsOther, output_kind, turns_kind, kind_of, Gathered, nothing, with_file, spelled, with_option, gathered, are_enough, turns_of, turns_given, run_given, emit_under, emit_given, run_words, emit_words, command_of, command_seen}
+use Rattle.sl_words.specs.Words.{Command, Run, Emit, Check, most_files, default_turns, AreEnough, IsPlainWord, IsJoined, IsShort, value_options, Part, File, Given, GivesValue, IsPart, AreParts, HasParts, files_in, options_in, Gives, AreTurns, Reads, HasNoReading, BeginsNoCommand}
+use Rattle.sl_words.specs.WordsReading.{is_plain, Kind, IsFile, Waits, HasValue, IsDashes, IsOther, output_kind, turns_kind, kind_of, Gathered, nothing, with_file, spelled, with_option, gathered, are_enough, turns_of, turns_given, run_given, emit_under, emit_given, check_given, run_words, emit_words, check_words, command_of, command_seen}
 use Rattle.sl_words.specs.declared.command.Command as declared
 use Rattle.sl_words.specs.declared.found.Place.{Place}
 use Rattle.sl_words.specs.declared.found.Place.TheVariants.{Among, BehindOption, BehindDashes}
@@ -148,6 +148,10 @@ emit_enough : (name : List ℕ) (files : List (List ℕ)) → name ≢ [] → Ar
 emit_enough [] files some enough = absurd (some refl)
 emit_enough (byte ∷ bytes) files some enough = rw (passes_enough files enough)
 
+-- `check` of as many files as it may name
+check_enough : (files : List (List ℕ)) → AreEnough files → check_given [] files ≡ Some (Check files)
+check_enough files enough = rw (passes_enough files enough)
+
 -- the command of words that ask for it
 pub command_of_reading : (words : List (List ℕ)) (command : Command) → Reads words command → command_of words ≡ Some command
 command_of_reading words (Run turns files) (rest, e, enough, options, are, gives) =
@@ -158,6 +162,10 @@ command_of_reading words (Emit name files) (rest, e, some, enough, gives) =
     ap command_of e
     ∙ ap (λ found. option_and_then (λ found. emit_given found.options found.files) found) (gives_gathered ((codes "-o", name) ∷ []) files rest gives)
     ∙ emit_enough name files some enough
+command_of_reading words (Check files) (rest, e, enough, gives) =
+    ap command_of e
+    ∙ ap (λ found. option_and_then (λ found. check_given found.options found.files) found) (gives_gathered [] files rest gives)
+    ∙ check_enough files enough
 
 -- The parts of words --------------------------------------------------------------------------------------------------
 
@@ -317,21 +325,39 @@ emit_read [] files words command gives h = absurd (cc h)
 emit_read (option ∷ []) files words command gives h = under_read option.0 option.1 files words command gives h
 emit_read (option ∷ other ∷ options) files words command gives h = absurd (cc h)
 
+-- words behind `check` that give as many files as it may name and no option are read so
+check_read : (options : List (List ℕ × List ℕ)) (files words : List (List ℕ)) (command : Command) → Gives options files words
+    → check_given options files ≡ Some command → Reads (codes "check" ∷ words) command
+check_read [] files words command gives h =
+    let t = cond_some (are_enough (length files)) (Check files) command h in
+    subst (λ c. Reads (codes "check" ∷ words) c) t.1 (words, refl, are_so_many files t.0, gives)
+check_read (option ∷ options) files words command gives h = absurd (cc h)
+
 -- words that have a command are read so
 pub reading_of_command : (words : List (List ℕ)) (command : Command) → command_of words ≡ Some command → Reads words command
 reading_of_command [] command h = absurd (cc h)
 reading_of_command (word ∷ words) command h =
-    elim (chosen (bytes_eq word (codes "run")) (run_words words) (cond (bytes_eq word (codes "emit")) (emit_words words) None) command h) [
+    elim (chosen (bytes_eq word (codes "run")) (run_words words) (cond (bytes_eq word (codes "emit")) (emit_words words) (cond (bytes_eq word (codes "check")) (check_words words) None)) command h) [
       | inl (is, e) ↦
           subst (λ w. Reads (w ∷ words) command) (sym ((bytes_eq-Decides word (codes "run")).0 is))
           (option_and_then_some (λ found. run_given found.options found.files) (gathered Among words) command e
           (λ found g. run_read found.options found.files words command (gathered_means Among words found g)))
-      | inr (_, e) ↦
-          let t = held (bytes_eq word (codes "emit")) (emit_words words) command e in
-          subst (λ w. Reads (w ∷ words) command) (sym ((bytes_eq-Decides word (codes "emit")).0 t.0))
-          (option_and_then_some (λ found. emit_given found.options found.files) (gathered Among words) command t.1
-          (λ found g. emit_read found.options found.files words command (gathered_means Among words found g)))
+      | inr (_, e) ↦ behind_run e
     ]
+  where
+    behind_run : cond (bytes_eq word (codes "emit")) (emit_words words) (cond (bytes_eq word (codes "check")) (check_words words) None) ≡ Some command → Reads (word ∷ words) command
+    behind_run e =
+        elim (chosen (bytes_eq word (codes "emit")) (emit_words words) (cond (bytes_eq word (codes "check")) (check_words words) None) command e) [
+          | inl (is, e) ↦
+              subst (λ w. Reads (w ∷ words) command) (sym ((bytes_eq-Decides word (codes "emit")).0 is))
+              (option_and_then_some (λ found. emit_given found.options found.files) (gathered Among words) command e
+              (λ found g. emit_read found.options found.files words command (gathered_means Among words found g)))
+          | inr (_, e) ↦
+              let t = held (bytes_eq word (codes "check")) (check_words words) command e in
+              subst (λ w. Reads (w ∷ words) command) (sym ((bytes_eq-Decides word (codes "check")).0 t.0))
+              (option_and_then_some (λ found. check_given found.options found.files) (gathered Among words) command t.1
+              (λ found g. check_read found.options found.files words command (gathered_means Among words found g)))
+        ]
 
 -- words with no command have no reading
 pub no_reading : (words : List (List ℕ)) → command_of words ≡ None → HasNoReading words
@@ -348,12 +374,14 @@ no_command words h = at (command_of words) refl
 -- nor have words whose first one is none
 pub begins_none : (words : List (List ℕ)) → BeginsNoCommand words → command_of words ≡ None
 begins_none [] begins = refl
-begins_none (word ∷ words) begins = at (bytes_eq word (codes "run")) refl (bytes_eq word (codes "emit")) refl
+begins_none (word ∷ words) begins = at (bytes_eq word (codes "run")) refl (bytes_eq word (codes "emit")) refl (bytes_eq word (codes "check")) refl
   where
-    at : (a : Bool) → bytes_eq word (codes "run") ≡ a → (b : Bool) → bytes_eq word (codes "emit") ≡ b → cond a (run_words words) (cond b (emit_words words) None) ≡ None
-    at true e b f = absurd (begins.0 ((bytes_eq-Decides word (codes "run")).0 e))
-    at false e true f = absurd (begins.1 ((bytes_eq-Decides word (codes "emit")).0 f))
-    at false e false f = refl
+    at : (a : Bool) → bytes_eq word (codes "run") ≡ a → (b : Bool) → bytes_eq word (codes "emit") ≡ b → (c : Bool) → bytes_eq word (codes "check") ≡ c
+        → cond a (run_words words) (cond b (emit_words words) (cond c (check_words words) None)) ≡ None
+    at true e b f c g = absurd (begins.0 ((bytes_eq-Decides word (codes "run")).0 e))
+    at false e true f c g = absurd (begins.1 ((bytes_eq-Decides word (codes "emit")).0 f))
+    at false e false f true g = absurd (begins.2 ((bytes_eq-Decides word (codes "check")).0 g))
+    at false e false f false g = refl
 
 -- What the code finds -------------------------------------------------------------------------------------------------
 

@@ -9,11 +9,14 @@ pub data Command : Type 0 where
   Run : (turns : ℕ) (files : List (List ℕ)) → Command
   -- `emit -o NAME FILE..`: the C of the program in these files is written under NAME.c
   Emit : (name : List ℕ) (files : List (List ℕ)) → Command
+  -- `check FILE..`: whether these files are accepted is told
+  Check : (files : List (List ℕ)) → Command
 
 -- the files that a command reads, in order
 abbrev pub files_of : Command → List (List ℕ)
 files_of (Run turns files) = files
 files_of (Emit name files) = files
+files_of (Check files) = files
 
 -- the most files that a command may name
 abbrev pub most_files : ℕ
@@ -112,13 +115,14 @@ AreTurns turns options =
     ((options ≡ []) × (turns ≡ default_turns))
     ⊎ ((digits : List ℕ) × (options ≡ (codes "--turns", digits) ∷ []) × WritesTurns digits turns)
 
--- the words ask for this command: `run` has 1 to 255 FILEs and at most one `--turns`, whose N is 0 to 2 ^ 63 - 1, and `emit` has as
--- many and one `-o`, whose NAME isn't empty
+-- the words ask for this command: `run` has 1 to 255 FILEs and at most one `--turns`, whose N is 0 to 2 ^ 63 - 1, `emit` has as many
+-- and one `-o`, whose NAME isn't empty, and `check` has as many and no option
 abbrev pub Reads : List (List ℕ) → Command → Type 0
 Reads words (Run turns files) =
     (rest : List (List ℕ)) × (words ≡ codes "run" ∷ rest) × AreEnough files × (options : List (List ℕ × List ℕ)) × AreTurns turns options × Gives options files rest
 Reads words (Emit name files) =
     (rest : List (List ℕ)) × (words ≡ codes "emit" ∷ rest) × (name ≢ []) × AreEnough files × Gives ((codes "-o", name) ∷ []) files rest
+Reads words (Check files) = (rest : List (List ℕ)) × (words ≡ codes "check" ∷ rest) × AreEnough files × Gives [] files rest
 
 -- the words are those of no command
 abbrev pub HasNoReading : List (List ℕ) → Type 0
@@ -127,4 +131,4 @@ HasNoReading words = (command : Command) → ¬ Reads words command
 -- the first word isn't that of a command
 abbrev pub BeginsNoCommand : List (List ℕ) → Type 0
 BeginsNoCommand [] = Unit {0}
-BeginsNoCommand (word ∷ words) = (word ≢ codes "run") × (word ≢ codes "emit")
+BeginsNoCommand (word ∷ words) = (word ≢ codes "run") × (word ≢ codes "emit") × (word ≢ codes "check")

@@ -16,7 +16,7 @@ use Rattle.sl_words.specs.declared.kinds.Valued.{Valued}
 use Rattle.sl_words.specs.declared.kinds.Valued.TheVariants.{Output, Turns}
 use Rattle.sl_words.specs.declared.found.Place.{Place}
 use Rattle.sl_words.specs.declared.found.Place.TheVariants.{Among, BehindOption, BehindDashes}
-use Rattle.sl_words.specs.Words.{Command, Run, Emit, most_files, default_turns, most_turns}
+use Rattle.sl_words.specs.Words.{Command, Run, Emit, Check, most_files, default_turns, most_turns}
 
 -- How a command is found ----------------------------------------------------------------------------------------------
 
@@ -127,6 +127,11 @@ emit_given [] files = None
 emit_given (option ∷ []) files = emit_under option.0 option.1 files
 emit_given (option ∷ other ∷ options) files = None
 
+-- `check` of these files, where there is no option
+abbrev pub check_given : List (List ℕ × List ℕ) → List (List ℕ) → Option Command
+check_given [] files = if are_enough (length files) then Some (Check files) else None
+check_given (option ∷ options) files = None
+
 -- the command of the words behind `run`
 abbrev pub run_words : List (List ℕ) → Option Command
 run_words words = option_and_then (λ found. run_given found.options found.files) (gathered Among words)
@@ -135,11 +140,19 @@ run_words words = option_and_then (λ found. run_given found.options found.files
 abbrev pub emit_words : List (List ℕ) → Option Command
 emit_words words = option_and_then (λ found. emit_given found.options found.files) (gathered Among words)
 
+-- the command of the words behind `check`
+abbrev pub check_words : List (List ℕ) → Option Command
+check_words words = option_and_then (λ found. check_given found.options found.files) (gathered Among words)
+
 -- the command that words ask for. That it is the one that `Reads` allows is `command_of_reading` and `reading_of_command` of
 -- proofs/Reading.antt
 abbrev pub command_of : List (List ℕ) → Option Command
 command_of [] = None
-command_of (word ∷ words) = if bytes_eq word (codes "run") then run_words words else if bytes_eq word (codes "emit") then emit_words words else None
+command_of (word ∷ words) =
+    if bytes_eq word (codes "run") then run_words words
+    else if bytes_eq word (codes "emit") then emit_words words
+    else if bytes_eq word (codes "check") then check_words words
+    else None
 
 -- How the code finds it -----------------------------------------------------------------------------------------------
 
@@ -151,6 +164,7 @@ names_seen names = map (λ name. name.now) names
 abbrev pub command_seen : declared.Command → Command
 command_seen (variant.Run turns files) = Run turns (names_seen files)
 command_seen (variant.Emit name files) = Emit name.now (names_seen files)
+command_seen (variant.Check files) = Check (names_seen files)
 
 -- the kind of a word as the code has it
 abbrev pub kind_seen : kind.Kind → Kind

@@ -1,6 +1,6 @@
 // The commands, made of the options and files that were found.
 ghost use Rattle.std.specs.Prelude.{◌≡◌, option_map};
-ghost use Rattle.sl_words.specs.WordsReading.{are_enough, command_seen, emit_given, found_seen, options_seen, run_given, turns_given, turns_of};
+ghost use Rattle.sl_words.specs.WordsReading.{are_enough, check_given, command_seen, emit_given, found_seen, options_seen, run_given, turns_given, turns_of};
 
 use crate::found::Found;
 use crate::kinds::{Given, Valued};
@@ -23,6 +23,8 @@ pub enum Command<'a> {
     Run { turns: u64, files: Row<&'a str> },
     /// `emit -o NAME FILE..`: the C of the program in these files is written under NAME.c.
     Emit { name: &'a str, files: Row<&'a str> },
+    /// `check FILE..`: whether these files are accepted is told.
+    Check { files: Row<&'a str> },
 }
 
 /// `run` of the files that were found, with the turns that were, if no other option was.
@@ -77,6 +79,16 @@ pub fn emit_given(found: Found<'_>) -> Option<Command<'_>>
         }
         _ => None,
     }
+}
+
+/// `check` of the files that were found, if no option was.
+pub fn check_given(found: Found<'_>) -> Option<Command<'_>>
+    ensures { check_given (found_seen found.entry).options (found_seen found.entry).files ≡ option_map command_seen result }
+{
+    if found.given.is_some() || !are_enough(found.files.len()) {
+        return None;
+    }
+    Some(Command::Check { files: found.files })
 }
 
 /// Whether a command may name so many files.

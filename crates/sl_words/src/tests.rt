@@ -14,6 +14,7 @@ fn words_of(alloc: Global, words: &[&str]) -> Result<Vec<String>, AllocError> {
 enum Asked {
     Run(u64),
     Emit(&'static str),
+    Check,
 }
 
 /// Words; and what they ask for, with the files. None where they have no reading.
@@ -22,7 +23,7 @@ type Meant = (
     Option<(Asked, &'static [&'static str])>,
 );
 
-const MEANT: [Meant; 6] = [
+const MEANT: [Meant; 10] = [
     (
         &["run", "b", "--", "-a"],
         Some((Asked::Run(1_000_000_000), &["b", "-a"])),
@@ -41,6 +42,13 @@ const MEANT: [Meant; 6] = [
         &["emit", "b", "-oq", "a", "--"],
         Some((Asked::Emit("q"), &["b", "a"])),
     ),
+    (
+        &["check", "b", "--", "-a"],
+        Some((Asked::Check, &["b", "-a"])),
+    ),
+    (&["check"], None),
+    (&["check", "--turns", "5", "a"], None),
+    (&["check", "-oq", "a"], None),
 ];
 
 /// Whether the words have no reading, or ask for this.
@@ -52,6 +60,9 @@ fn means(read: Option<Command<'_>>, meant: &Option<(Asked, &[&str])>) -> bool {
         }
         (Some(Command::Emit { name, files }), Some((Asked::Emit(other), names))) => {
             name == *other && files.as_slice() == *names
+        }
+        (Some(Command::Check { files }), Some((Asked::Check, names))) => {
+            files.as_slice() == *names
         }
         _ => false,
     }

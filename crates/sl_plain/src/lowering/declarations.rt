@@ -1,12 +1,11 @@
-// The declarations of statements, in the order of their lines.
+// The declarations of statements, in their order.
 ghost use Rattle.std.specs.Prelude.{OnOk};
 ghost use Rattle.std.specs.List.{flat_map};
-ghost use Rattle.sl_plain.specs.Plain.{declared_in};
+ghost use Rattle.sl_plain.specs.Program.{declared_in};
 ghost use Rattle.sl_plain.specs.Numbering.{Declares};
 
 use super::numbers::Variables;
-use crate::line::Kind;
-use crate::tree::Stmt;
+use crate::program::{Kind, Stmt};
 use sl_text::Mem;
 use std::alloc::Global;
 
@@ -28,21 +27,17 @@ fn declare_stmt(alloc: Global, variables: &mut Variables, stmt: &Stmt) -> Result
         Stmt::Declare(_, name, kind, _) => variables.add(alloc, name.as_slice(), *kind),
         Stmt::If(_, chosen, other) => {
             declare_block(alloc, variables, chosen.as_slice())?;
-            match other {
-                None => Ok(()),
-                Some(stmts) => declare_block(alloc, variables, stmts.as_slice()),
-            }
+            declare_block(alloc, variables, other.as_slice())
         }
         Stmt::While(_, body) => declare_block(alloc, variables, body.as_slice()),
-        Stmt::For(name, _, _, body) => {
+        Stmt::For(name, _, _, body, _) => {
             variables.add(alloc, name.as_slice(), Kind::Number)?;
             declare_block(alloc, variables, body.as_slice())
         }
         Stmt::Assign(..) => Ok(()),
         Stmt::Print(_) => Ok(()),
         Stmt::PrintText(_) => Ok(()),
-        Stmt::Spin(_) => Ok(()),
-        Stmt::Assert(_) => Ok(()),
-        Stmt::Halt(_) => Ok(()),
+        Stmt::Assert(..) => Ok(()),
+        Stmt::Halt(..) => Ok(()),
     }
 }

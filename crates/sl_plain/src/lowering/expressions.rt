@@ -5,7 +5,7 @@ ghost use Rattle.sl_plain.specs.Lowered.{variable, path_of, atom_expr, condition
 ghost use Rattle.sl_plain.specs.Numbering.{IsBy};
 
 use super::numbers::Variables;
-use crate::line::{Atom, Condition};
+use crate::program::{Atom, Condition};
 use sl_core::{CoreExpr, CorePath, CoreRoot};
 use sl_num::{Comparison, Op};
 use sl_text::{Boxed, Mem};

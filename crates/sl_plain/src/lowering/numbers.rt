@@ -1,9 +1,9 @@
 // The variables of `main` by their names.
 ghost use Rattle.std.specs.Prelude.{◌≡◌, [], ◌∷◌, ◌++◌, List, Bool, OnOk};
-ghost use Rattle.sl_plain.specs.Plain.{Declared};
+ghost use Rattle.sl_plain.specs.Program.{Declared};
 ghost use Rattle.sl_plain.specs.Numbering.{variable_named, AreNumbered};
 
-use crate::line::Kind;
+use crate::program::Kind;
 use sl_text::Mem;
 use std::alloc::Global;
 use std::collections::BTreeMap;

@@ -1,48 +1,39 @@
 // The statements of a core.
-ghost use Rattle.std.specs.Prelude.{◌≡◌, ◌+◌, List, [], ◌∷◌, ◌++◌, Some, IfOk};
+ghost use Rattle.std.specs.Prelude.{◌≡◌, ◌+◌, [], ◌∷◌, ◌++◌, Some, IfOk};
+ghost use Rattle.std.specs.List.{flat_map};
 ghost use Rattle.sl_core.specs.declared.tree.CoreStmt.TheVariants as core;
-ghost use Rattle.sl_plain.specs.declared.line.Kind.TheVariants as kind;
-ghost use Rattle.sl_plain.specs.Plain.{Declared, kind_of_atom};
+ghost use Rattle.sl_plain.specs.declared.program.Kind.TheVariants as kind;
+ghost use Rattle.sl_plain.specs.Program.{kind_of_atom};
 ghost use Rattle.sl_plain.specs.Lowered.{atom_expr, store_right, put_text, print_of, lowered};
-ghost use Rattle.sl_plain.specs.Numbering.{AreNumbered, IsBy, IsLoweredTo, lowered_all};
+ghost use Rattle.sl_plain.specs.Reach.{AreLines, right_lines, lines_in};
+ghost use Rattle.sl_plain.specs.Numbering.{IsBy, lowered_all};
 
 use super::expressions::{
     apply, compare, lower_atom, lower_condition, lower_place, number_of, unnamed,
 };
 use super::loops::{Counter, for_of, while_of};
 use super::numbers::Variables;
-use crate::line::{Atom, Kind, Right};
-use crate::tree::Stmt;
+use crate::program::{Atom, Kind, Right, Stmt};
 use sl_core::{CoreExpr, CorePath, CoreStmt};
 use sl_text::{Mem, Row};
 use std::alloc::Global;
 
-/// Statements of a core, and the line behind those that they come from.
-#[derive(Drop)]
-pub struct Block {
-    pub stmts: Row<CoreStmt>,
-    pub behind: u32,
-}
-
-/// The statements behind a line, in order, in `for`s with so many variables without names.
+/// The statements in order, in `for`s with so many variables without names. Their lines are numbers of 32 bits, as those of a tree are.
 #[cycle(lower)]
 pub fn lower_block(
     alloc: Global,
     variables: &Variables,
     stmts: &[Stmt],
     taken: u32,
-    line: u32,
-) -> Result<Block, Mem>
-    ensures { IfOk result (λ block. (names : List Declared) → AreNumbered names variables.now → IsLoweredTo (lowered_all names stmts.now) taken line block.stmts block.behind) }
+) -> Result<Row<CoreStmt>, Mem>
+    ensures value { IfOk result (λ low. IsBy variables.now (λ names. lowered_all names stmts.now taken) low) }
+    ensures lines { IfOk result (λ low. AreLines (flat_map lines_in stmts.now)) }
 {
     let mut low = Row::new(alloc);
-    let mut behind = line;
     for stmt in stmts {
-        let block = lower_stmt(alloc, variables, stmt, taken, behind)?;
-        low.append(block.stmts)?;
-        behind = block.behind;
+        low.append(lower_stmt(alloc, variables, stmt, taken)?)?;
     }
-    Ok(Block { stmts: low, behind })
+    Ok(low)
 }
 
 #[cycle(lower)]
@@ -51,100 +42,62 @@ fn lower_stmt(
     variables: &Variables,
     stmt: &Stmt,
     taken: u32,
-    line: u32,
-) -> Result<Block, Mem>
-    ensures { IfOk result (λ block. (names : List Declared) → AreNumbered names variables.now → IsLoweredTo (lowered names stmt.now) taken line block.stmts block.behind) }
+) -> Result<Row<CoreStmt>, Mem>
+    ensures value { IfOk result (λ low. IsBy variables.now (λ names. lowered names stmt.now taken) low) }
+    ensures lines { IfOk result (λ low. AreLines (lines_in stmt.now)) }
 {
     match stmt {
         Stmt::Declare(_, name, _, first) => {
             let place = lower_place(variables, name.as_slice());
-            on_line(
-                alloc,
-                store_right(alloc, variables, line, place, first)?,
-                line,
-            )
+            one(alloc, store_right(alloc, variables, place, first)?)
         }
         Stmt::Assign(name, value) => {
             let place = lower_place(variables, name.as_slice());
-            on_line(
-                alloc,
-                store_right(alloc, variables, line, place, value)?,
-                line,
-            )
+            one(alloc, store_right(alloc, variables, place, value)?)
         }
-        Stmt::Print(atom) => {
-            let stmts = lower_print(alloc, variables, atom)?;
-            Ok(Block {
-                stmts,
-                behind: next(line)?,
-            })
-        }
-        Stmt::PrintText(text) => on_line(alloc, put_text_line(alloc, text.as_slice())?, line),
+        Stmt::Print(atom) => lower_print(alloc, variables, atom),
+        Stmt::PrintText(text) => one(alloc, put_text_line(alloc, text.as_slice())?),
         Stmt::If(test, chosen, other) => {
             let test = lower_condition(alloc, variables, test)?;
-            let chosen = lower_block(alloc, variables, chosen.as_slice(), taken, next(line)?)?;
-            match other {
-                None => {
-                    let other = Row::new(alloc);
-                    on_line(
-                        alloc,
-                        CoreStmt::If(test, chosen.stmts, other),
-                        chosen.behind,
-                    )
-                }
-                Some(stmts) => {
-                    let line = next(chosen.behind)?;
-                    let other = lower_block(alloc, variables, stmts.as_slice(), taken, line)?;
-                    on_line(
-                        alloc,
-                        CoreStmt::If(test, chosen.stmts, other.stmts),
-                        other.behind,
-                    )
-                }
-            }
+            let chosen = lower_block(alloc, variables, chosen.as_slice(), taken)?;
+            let other = lower_block(alloc, variables, other.as_slice(), taken)?;
+            one(alloc, CoreStmt::If(test, chosen, other))
         }
         Stmt::While(test, body) => {
             let test = lower_condition(alloc, variables, test)?;
-            let body = lower_block(alloc, variables, body.as_slice(), taken, next(line)?)?;
-            on_line(alloc, while_of(alloc, test, body.stmts)?, body.behind)
+            let body = lower_block(alloc, variables, body.as_slice(), taken)?;
+            one(alloc, while_of(alloc, test, body)?)
         }
-        Stmt::Spin(test) => {
-            let test = lower_condition(alloc, variables, test)?;
-            on_line(alloc, while_of(alloc, test, Row::new(alloc))?, line)
-        }
-        Stmt::For(name, first, end, body) => {
+        Stmt::For(name, first, end, body, line) => {
             let bound = next(taken)?;
             let counter = Counter {
                 name: number_of(variables, name.as_slice()),
                 next: unnamed(variables, taken)?,
                 bound: unnamed(variables, bound)?,
             };
-            let body = lower_block(alloc, variables, body.as_slice(), next(bound)?, next(line)?)?;
+            let body = lower_block(alloc, variables, body.as_slice(), next(bound)?)?;
             let first = lower_atom(variables, first);
             let end = lower_atom(variables, end);
-            Ok(Block {
-                stmts: for_of(alloc, line, counter, first, end, body.stmts)?,
-                behind: next(body.behind)?,
-            })
+            for_of(alloc, *line, counter, first, end, body)
         }
-        Stmt::Assert(test) => {
+        Stmt::Assert(test, line) => {
             let test = lower_condition(alloc, variables, test)?;
-            let other = one(alloc, CoreStmt::Halt(1, 0, line))?;
-            on_line(alloc, CoreStmt::If(test, Row::new(alloc), other), line)
+            let other = one(alloc, CoreStmt::Halt(1, 0, *line))?;
+            one(alloc, CoreStmt::If(test, Row::new(alloc), other))
         }
-        Stmt::Halt(_) => on_line(alloc, CoreStmt::Halt(2, 0, line), line),
+        Stmt::Halt(_, line) => one(alloc, CoreStmt::Halt(2, 0, *line)),
     }
 }
 
-/// The value of a right side is stored, on this line of the one file.
+/// The value of a right side is stored.
 fn store_right(
     alloc: Global,
     variables: &Variables,
-    line: u32,
     path: CorePath,
     right: &Right,
 ) -> Result<CoreStmt, Mem>
-    ensures { IfOk result (λ stmt. IsBy variables.now (λ names. store_right names line path right.now) stmt) }
+    ensures value { IfOk result (λ stmt. IsBy variables.now (λ names. store_right names path right.now) stmt) }
+    ensures lines { IfOk result (λ stmt. AreLines (right_lines right.now)) }
 {
     match right {
         Right::Just(atom) => Ok(CoreStmt::Store(path, lower_atom(variables, atom))),
@@ -157,13 +110,13 @@ fn store_right(
             )?;
             Ok(CoreStmt::Store(path, value))
         }
-        Right::Apply(op, a, b) => {
+        Right::Apply(op, a, b, line) => {
             let value = apply(
                 alloc,
                 *op,
                 lower_atom(variables, a),
                 lower_atom(variables, b),
-                line,
+                *line,
             )?;
             Ok(CoreStmt::Store(path, value))
         }
@@ -171,7 +124,7 @@ fn store_right(
     }
 }
 
-/// The next number, of a line or of a variable. There are too many if there is none.
+/// The next number of a variable. There are too many if there is none.
 pub fn next(number: u32) -> Result<u32, Mem>
     ensures { IfOk result (λ behind. behind ≡ number + 1) }
 {
@@ -187,16 +140,6 @@ pub fn one(alloc: Global, stmt: CoreStmt) -> Result<Row<CoreStmt>, Mem>
     let mut stmts = Row::new(alloc);
     stmts.push(stmt)?;
     Ok(stmts)
-}
-
-/// A statement, whose last line is this one.
-fn on_line(alloc: Global, stmt: CoreStmt, line: u32) -> Result<Block, Mem>
-    ensures { IfOk result (λ block. (block.stmts ≡ stmt ∷ []) × (block.behind ≡ line + 1)) }
-{
-    Ok(Block {
-        stmts: one(alloc, stmt)?,
-        behind: next(line)?,
-    })
 }
 
 /// An atom is printed, and a line feed behind it.

@@ -3,52 +3,9 @@ ghost use Rattle.std.specs.Prelude.{◌≡◌};
 ghost use Rattle.std.specs.List.{list_all};
 ghost use Rattle.std.specs.Char.{is_ascii_alphanumeric};
 ghost use Rattle.std.specs.Option.{option_copied};
-ghost use Rattle.sl_plain.specs.LineReading.{is_name, is_identifier, is_word, is_reserved, is_text, is_text_byte, quoted_in};
+ghost use Rattle.sl_plain.specs.Names.{begins_small, begins_with_capital, is_name, is_app_name, is_reserved, is_reserved_app_name, is_text, is_text_byte, number_of, between, quoted_in};
 
-use crate::reading::parts::between;
-
-/// The words of the language, which are no names.
-const WORDS: [&[u8]; 39] = [
-    b"abstract",
-    b"case",
-    b"catch",
-    b"class",
-    b"def",
-    b"do",
-    b"else",
-    b"extends",
-    b"final",
-    b"finally",
-    b"for",
-    b"forSome",
-    b"if",
-    b"implicit",
-    b"import",
-    b"lazy",
-    b"match",
-    b"new",
-    b"null",
-    b"object",
-    b"override",
-    b"package",
-    b"private",
-    b"protected",
-    b"return",
-    b"sealed",
-    b"super",
-    b"this",
-    b"throw",
-    b"trait",
-    b"try",
-    b"true",
-    b"false",
-    b"type",
-    b"val",
-    b"var",
-    b"while",
-    b"with",
-    b"yield",
-];
+use sl_num::read_decimal;
 
 /// The names that no variable may have, of those that begin with a small letter.
 const RESERVED: [&[u8]; 6] = [
@@ -60,36 +17,88 @@ const RESERVED: [&[u8]; 6] = [
     b"halt",
 ];
 
+/// The names that no App may have.
+const RESERVED_FOR_APPS: [&[u8]; 21] = [
+    b"B",
+    b"Z",
+    b"C",
+    b"String",
+    b"S8",
+    b"S16",
+    b"S32",
+    b"S64",
+    b"U8",
+    b"U16",
+    b"U32",
+    b"U64",
+    b"ISZ",
+    b"MSZ",
+    b"Unit",
+    b"App",
+    b"T",
+    b"F",
+    b"Port",
+    b"Contract",
+    b"Invariant",
+];
+
+/// Whether a variable may have this name.
 pub fn is_name(name: &[u8]) -> bool
     ensures { result ≡ is_name name.now }
 {
-    is_identifier(name) && !is_word(name) && !is_reserved(name)
+    begins_small(name) && is_alphanumeric(name) && !is_reserved(name)
 }
 
-/// Whether this is a small letter, and then letters and digits.
-fn is_identifier(name: &[u8]) -> bool
-    ensures { result ≡ is_identifier name.now }
+/// Whether an App may have this name.
+pub fn is_app_name(name: &[u8]) -> bool
+    ensures { result ≡ is_app_name name.now }
 {
-    name.first().is_some_and(|byte| byte.is_ascii_lowercase()) && is_alphanumeric(name)
+    begins_with_capital(name) && is_alphanumeric(name) && !is_reserved_app_name(name)
+}
+
+fn begins_small(name: &[u8]) -> bool
+    ensures { result ≡ begins_small name.now }
+{
+    name.first().is_some_and(|byte| byte.is_ascii_lowercase())
+}
+
+fn begins_with_capital(name: &[u8]) -> bool
+    ensures { result ≡ begins_with_capital name.now }
+{
+    name.first().is_some_and(|byte| byte.is_ascii_uppercase())
 }
 
 /// Whether these are letters and digits alone.
-pub fn is_alphanumeric(name: &[u8]) -> bool
+fn is_alphanumeric(name: &[u8]) -> bool
     ensures { result ≡ list_all is_ascii_alphanumeric name.now }
 {
     name.iter().all(|byte| byte.is_ascii_alphanumeric())
-}
-
-fn is_word(name: &[u8]) -> bool
-    ensures { result ≡ is_word name.now }
-{
-    WORDS.contains(&name)
 }
 
 fn is_reserved(name: &[u8]) -> bool
     ensures { result ≡ is_reserved name.now }
 {
     RESERVED.contains(&name)
+}
+
+fn is_reserved_app_name(name: &[u8]) -> bool
+    ensures { result ≡ is_reserved_app_name name.now }
+{
+    RESERVED_FOR_APPS.contains(&name)
+}
+
+/// The number of 64 bits that is printed as these bytes.
+pub fn number_of(bytes: &[u8]) -> Option<i64>
+    ensures { result ≡ number_of bytes.now }
+{
+    i64::try_from(read_decimal(bytes)?).ok()
+}
+
+/// What stands between this front and this end of the bytes.
+fn between<'a>(front: &[u8], end: &[u8], bytes: &'a [u8]) -> Option<&'a [u8]>
+    ensures { option_copied result ≡ between front.now end.now bytes.now }
+{
+    bytes.strip_prefix(front)?.strip_suffix(end)
 }
 
 /// The text between quotation marks.

@@ -2,9 +2,9 @@ use Rattle.std.proofs.Common.{◌≡◌, None, Some, refl, sym, map, string_byte
 use Rattle.sl_outside.specs.Folder.{folder_state}
 use Rattle.sl_outside.specs.Sink.{sink_state}
 use Rattle.sl_outside.specs.Source.{source_state}
-use Rattle.sl_words.specs.Words.{Run, Emit, BeginsNoCommand}
+use Rattle.sl_words.specs.Words.{Run, Emit, Check, BeginsNoCommand}
 use Rattle.sl_words.specs.WordsReading.{command_of, names_seen}
-use Rattle.sl_tool.proofs.Paths.{usage_promise, words_memory_promise, end_promise, stop_promise, emit_promise, refused_promise}
+use Rattle.sl_tool.proofs.Paths.{usage_promise, words_memory_promise, end_promise, stop_promise, emit_promise, refused_promise, check_promise, unchecked_promise}
 use Rattle.sl_tool.proofs.slang.Goals as goal
 
 -- the words have no reading
@@ -103,8 +103,8 @@ returns-in-Ok-emit_files g c =
     c.in-Ok-emit_files.ensures.emitted refl c.in-Ok-emit_files.ensures.cause refl
 
 -- it was not
-pub returns : goal.returns
-returns g c =
+pub returns-in-Emit : goal.returns-in-Emit
+returns-in-Emit g c =
     refused_promise
     (map string_bytes c.args.words.now.items)
     (folder_state (g.F.Folder.files c.args.folder.now) (g.F.Folder.faults c.args.folder.now) (g.F.Folder.calls c.args.folder.now) (g.F.Folder.log c.args.folder.now))
@@ -120,3 +120,41 @@ returns g c =
     subst (λ files. command_of (map string_bytes c.args.words.now.items) ≡ Some (Emit c.in-Emit.name.now (names_seen files))) (sym c.as_slice-in-Emit.ensures)
     (subst (λ words. command_of (map string_bytes words) ≡ Some (Emit c.in-Emit.name.now (names_seen c.in-Emit.files))) c.as_slice.ensures.value h))
     c.in-Err-emit_files.stop c.tell_stop-in-Err-emit_files.result c.in-Err-emit_files.ensures.emitted refl c.in-Err-emit_files.ensures.cause c.tell_stop-in-Err-emit_files.ensures
+
+-- the files were accepted
+pub returns-in-Ok-check_files : goal.returns-in-Ok-check_files
+returns-in-Ok-check_files g c =
+    check_promise
+    (map string_bytes c.args.words.now.items)
+    (folder_state (g.F.Folder.files c.args.folder.now) (g.F.Folder.faults c.args.folder.now) (g.F.Folder.calls c.args.folder.now) (g.F.Folder.log c.args.folder.now))
+    (folder_state (g.F.Folder.files c.check_files.new.folder) (g.F.Folder.faults c.check_files.new.folder) (g.F.Folder.calls c.check_files.new.folder) (g.F.Folder.log c.check_files.new.folder))
+    (source_state (g.S.Source.left c.args.input.now) (g.S.Source.faults c.args.input.now) (g.S.Source.calls c.args.input.now))
+    (source_state (g.S.Source.left c.args.input.now) (g.S.Source.faults c.args.input.now) (g.S.Source.calls c.args.input.now))
+    (sink_state (g.K.Sink.held c.args.out.now) (g.K.Sink.faults c.args.out.now) (g.K.Sink.calls c.args.out.now))
+    (sink_state (g.K.Sink.held c.check_files.new.out) (g.K.Sink.faults c.check_files.new.out) (g.K.Sink.calls c.check_files.new.out))
+    (sink_state (g.N.Sink.held c.args.note.now) (g.N.Sink.faults c.args.note.now) (g.N.Sink.calls c.args.note.now))
+    (sink_state (g.N.Sink.held c.args.note.now) (g.N.Sink.faults c.args.note.now) (g.N.Sink.calls c.args.note.now))
+    (names_seen c.as_slice-in-Check.result.now)
+    (let h = rw (c.in-Ok-Some.field-0-is, c.in-Check.is) at c.in-Ok-Some.ensures.read in
+    subst (λ files. command_of (map string_bytes c.args.words.now.items) ≡ Some (Check (names_seen files))) (sym c.as_slice-in-Check.ensures)
+    (subst (λ words. command_of (map string_bytes words) ≡ Some (Check (names_seen c.in-Check.files))) c.as_slice.ensures.value h))
+    c.in-Ok-check_files.ensures.checked refl c.in-Ok-check_files.ensures.cause refl
+
+-- they were not
+pub returns : goal.returns
+returns g c =
+    unchecked_promise
+    (map string_bytes c.args.words.now.items)
+    (folder_state (g.F.Folder.files c.args.folder.now) (g.F.Folder.faults c.args.folder.now) (g.F.Folder.calls c.args.folder.now) (g.F.Folder.log c.args.folder.now))
+    (folder_state (g.F.Folder.files c.check_files.new.folder) (g.F.Folder.faults c.check_files.new.folder) (g.F.Folder.calls c.check_files.new.folder) (g.F.Folder.log c.check_files.new.folder))
+    (source_state (g.S.Source.left c.args.input.now) (g.S.Source.faults c.args.input.now) (g.S.Source.calls c.args.input.now))
+    (source_state (g.S.Source.left c.args.input.now) (g.S.Source.faults c.args.input.now) (g.S.Source.calls c.args.input.now))
+    (sink_state (g.K.Sink.held c.args.out.now) (g.K.Sink.faults c.args.out.now) (g.K.Sink.calls c.args.out.now))
+    (sink_state (g.K.Sink.held c.check_files.new.out) (g.K.Sink.faults c.check_files.new.out) (g.K.Sink.calls c.check_files.new.out))
+    (sink_state (g.N.Sink.held c.args.note.now) (g.N.Sink.faults c.args.note.now) (g.N.Sink.calls c.args.note.now))
+    (sink_state (g.N.Sink.held c.tell_stop-in-Err-check_files.new.note) (g.N.Sink.faults c.tell_stop-in-Err-check_files.new.note) (g.N.Sink.calls c.tell_stop-in-Err-check_files.new.note))
+    (names_seen c.as_slice-in-Check.result.now)
+    (let h = rw (c.in-Ok-Some.field-0-is, c.in-Check.is) at c.in-Ok-Some.ensures.read in
+    subst (λ files. command_of (map string_bytes c.args.words.now.items) ≡ Some (Check (names_seen files))) (sym c.as_slice-in-Check.ensures)
+    (subst (λ words. command_of (map string_bytes words) ≡ Some (Check (names_seen c.in-Check.files))) c.as_slice.ensures.value h))
+    c.in-Err-check_files.stop c.tell_stop-in-Err-check_files.result c.in-Err-check_files.ensures.checked refl c.in-Err-check_files.ensures.cause c.tell_stop-in-Err-check_files.ensures

@@ -15,3 +15,8 @@ pub returns-in-len1-up-2-clause-exact : goal.returns-in-len1-up-2-clause-exact
 returns-in-len1-up-2-clause-exact c =
     let read : IfOk c.read_emit.result (λ found. command_of (map string_bytes c.args.words.now) ≡ option_map command_seen found) = grind (arith, common_steps) in
     read_exactly (map string_bytes c.args.words.now) c.read_emit.result read
+
+pub returns-in-len1-up-3-clause-exact : goal.returns-in-len1-up-3-clause-exact
+returns-in-len1-up-3-clause-exact c =
+    let read : IfOk c.read_check.result (λ found. command_of (map string_bytes c.args.words.now) ≡ option_map command_seen found) = grind (arith, common_steps) in
+    read_exactly (map string_bytes c.args.words.now) c.read_check.result read

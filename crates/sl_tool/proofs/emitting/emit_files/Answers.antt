@@ -7,15 +7,12 @@ use Rattle.sl_tool.specs.Written.{written}
 use Rattle.sl_tool.specs.Answer.{c_name}
 use Rattle.sl_tool.specs.Texts.{emitted_line}
 use Rattle.sl_words.specs.WordsReading.{names_seen}
-use Rattle.sl_tool.proofs.Asking.{program_is_ok, program_in_reach, emit_stopped}
+use Rattle.sl_tool.proofs.Asking.{program_is_ok, emit_stopped}
 use Rattle.sl_tool.proofs.Writing.{program_written, write_refused, write_refused_cause}
 use Rattle.sl_tool.proofs.emitting.emit_files.Goals as goal
 
-pub c_text-requires-clause-program : goal.c_text-requires-clause-program
-c_text-requires-clause-program g c = program_is_ok c.in_ok-program.ensures.read
-
-pub c_text-requires-clause-reach : goal.c_text-requires-clause-reach
-c_text-requires-clause-reach g c = program_in_reach c.in_ok-program.ensures.read
+pub c_text-requires : goal.c_text-requires
+c_text-requires g c = program_is_ok c.in_ok-program.ensures.read
 
 -- the write was refused
 pub returns-in_err-write-clause-emitted : goal.returns-in_err-write-clause-emitted

@@ -5,15 +5,12 @@ use Rattle.sl_outside.specs.Source.{source_state}
 use Rattle.sl_outside.specs.Sink.{sink_state}
 use Rattle.c_machine.specs.declared.ending.StepFault.TheVariants as fault
 use Rattle.sl_words.specs.WordsReading.{names_seen}
-use Rattle.sl_tool.proofs.Asking.{program_is_ok, program_in_reach, run_stopped}
+use Rattle.sl_tool.proofs.Asking.{program_is_ok, run_stopped}
 use Rattle.sl_tool.proofs.Ran.{tree_ran, tree_defined}
 use Rattle.sl_tool.proofs.running.run_files.Goals as goal
 
-pub translate-requires-clause-program : goal.translate-requires-clause-program
-translate-requires-clause-program g c = program_is_ok c.in_ok-program.ensures.read
-
-pub translate-requires-clause-reach : goal.translate-requires-clause-reach
-translate-requires-clause-reach g c = program_in_reach c.in_ok-program.ensures.read
+pub translate-requires : goal.translate-requires
+translate-requires g c = program_is_ok c.in_ok-program.ensures.read
 
 -- the program ran to its end
 pub returns-in-Ok-clause-ran : goal.returns-in-Ok-clause-ran

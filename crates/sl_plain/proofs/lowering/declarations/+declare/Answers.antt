@@ -1,8 +1,8 @@
-use Rattle.std.proofs.Common.{[], ◌∷◌, ◌++◌, false, map, sym, ap, subst, ◌∙◌, append-nil, flat_map}
-use Rattle.sl_plain.specs.Plain.{joined, declared_in, counted}
+use Rattle.std.proofs.Common.{[], ◌∷◌, ◌++◌, false, map, sym, ap, subst, ◌∙◌, flat_map}
+use Rattle.sl_plain.specs.Program.{joined, declared_in, counted}
 use Rattle.sl_plain.specs.Numbering.{AreNumbered}
 use Rattle.sl_plain.proofs.Runs.{joined_map}
-use Rattle.sl_plain.proofs.Forms.{declared_of_declare, declared_of_assign, declared_of_print, declared_of_print_text, declared_of_if, declared_of_if_else, declared_of_while, declared_of_spin, declared_of_for, declared_of_assert, declared_of_halt, on_ok_so, declares_none, declares_then, declares_same}
+use Rattle.sl_plain.proofs.Forms.{declared_of_declare, declared_of_assign, declared_of_print, declared_of_print_text, declared_of_if, declared_of_while, declared_of_for, declared_of_assert, declared_of_halt, on_ok_so, declares_none, declares_then, declares_same}
 use Rattle.sl_plain.proofs.lowering.declarations.+declare.Goals as goal
 
 pub declare_stmt-returns-in-Declare : goal.declare_stmt-returns-in-Declare
@@ -11,21 +11,15 @@ declare_stmt-returns-in-Declare t c =
     (on_ok_so _ _ c.add.result c.add.ensures
     (λ h before numbered. subst (λ name. AreNumbered (before ++ record { name = name; is_var = c.in-Declare.field-0; type = c.in-Declare.kind } ∷ []) c.add.new.self) c.as_slice.ensures (h before c.in-Declare.field-0 numbered)))
 
-pub declare_stmt-returns-in-None : goal.declare_stmt-returns-in-None
-declare_stmt-returns-in-None t c =
-    rw (c.in-If.is, c.in-None.is, declared_of_if c.in-If.field-0 c.in-If.chosen)
-    (declares_same (flat_map declared_in c.as_slice-in-If.result.now) (joined (map declared_in c.in-If.chosen) ++ []) c.args.variables.now c.declare_block.new.variables
-    (ap (flat_map declared_in) c.as_slice-in-If.ensures ∙ (sym (joined_map declared_in c.in-If.chosen) ∙ sym (append-nil (joined (map declared_in c.in-If.chosen))))) c.in_ok-declare_block-in-If.ensures)
-
-pub declare_stmt-returns-in-Some : goal.declare_stmt-returns-in-Some
-declare_stmt-returns-in-Some t c =
-    rw (c.in-If.is, c.in-Some.is, declared_of_if_else c.in-If.field-0 c.in-If.chosen c.in-Some.stmts)
-    (on_ok_so _ _ c.declare_block-in-Some.result c.declare_block-in-Some.ensures
-    (λ second. declares_then (joined (map declared_in c.in-If.chosen)) (joined (map declared_in c.in-Some.stmts)) c.args.variables.now c.declare_block.new.variables c.declare_block-in-Some.new.variables
+pub declare_stmt-returns-in_ok-declare_block-in-If : goal.declare_stmt-returns-in_ok-declare_block-in-If
+declare_stmt-returns-in_ok-declare_block-in-If t c =
+    rw (c.in-If.is, declared_of_if c.in-If.field-0 c.in-If.chosen c.in-If.other)
+    (on_ok_so _ _ c.declare_block-in-If.result c.declare_block-in-If.ensures
+    (λ second. declares_then (joined (map declared_in c.in-If.chosen)) (joined (map declared_in c.in-If.other)) c.args.variables.now c.declare_block.new.variables c.declare_block-in-If.new.variables
     (declares_same (flat_map declared_in c.as_slice-in-If.result.now) (joined (map declared_in c.in-If.chosen)) c.args.variables.now c.declare_block.new.variables
     (ap (flat_map declared_in) c.as_slice-in-If.ensures ∙ sym (joined_map declared_in c.in-If.chosen)) c.in_ok-declare_block-in-If.ensures)
-    (declares_same (flat_map declared_in c.as_slice-in-Some.result.now) (joined (map declared_in c.in-Some.stmts)) c.declare_block.new.variables c.declare_block-in-Some.new.variables
-    (ap (flat_map declared_in) c.as_slice-in-Some.ensures ∙ sym (joined_map declared_in c.in-Some.stmts)) second)))
+    (declares_same (flat_map declared_in c.as_slice-in-If-2.result.now) (joined (map declared_in c.in-If.other)) c.declare_block.new.variables c.declare_block-in-If.new.variables
+    (ap (flat_map declared_in) c.as_slice-in-If-2.ensures ∙ sym (joined_map declared_in c.in-If.other)) second)))
 
 pub declare_stmt-returns-in-While : goal.declare_stmt-returns-in-While
 declare_stmt-returns-in-While t c =
@@ -36,15 +30,12 @@ declare_stmt-returns-in-While t c =
 
 pub declare_stmt-returns-in_ok-add-in-For : goal.declare_stmt-returns-in_ok-add-in-For
 declare_stmt-returns-in_ok-add-in-For t c =
-    rw (c.in-For.is, declared_of_for c.in-For.name c.in-For.field-1 c.in-For.field-2 c.in-For.body)
+    rw (c.in-For.is, declared_of_for c.in-For.name c.in-For.field-1 c.in-For.field-2 c.in-For.body c.in-For.field-4)
     (on_ok_so _ _ c.declare_block-in-For.result c.declare_block-in-For.ensures
     (λ h. declares_then (counted c.in-For.name ∷ []) (joined (map declared_in c.in-For.body)) c.args.variables.now c.add-in-For.new.self c.declare_block-in-For.new.variables
     (λ before numbered. subst (λ name. AreNumbered (before ++ counted name ∷ []) c.add-in-For.new.self) c.as_slice-in-For.ensures (c.in_ok-add-in-For.ensures before false numbered))
     (declares_same (flat_map declared_in c.as_slice-in-For-2.result.now) (joined (map declared_in c.in-For.body)) c.add-in-For.new.self c.declare_block-in-For.new.variables
     (ap (flat_map declared_in) c.as_slice-in-For-2.ensures ∙ sym (joined_map declared_in c.in-For.body)) h)))
-
-pub declare_stmt-returns-in-Spin : goal.declare_stmt-returns-in-Spin
-declare_stmt-returns-in-Spin t c = rw c.in-Spin.is (declares_none _ _ (declared_of_spin _))
 
 pub declare_stmt-returns-in-Assign : goal.declare_stmt-returns-in-Assign
 declare_stmt-returns-in-Assign t c = rw c.in-Assign.is (declares_none _ _ (declared_of_assign _ _))
@@ -56,7 +47,7 @@ pub declare_stmt-returns-in-PrintText : goal.declare_stmt-returns-in-PrintText
 declare_stmt-returns-in-PrintText t c = rw c.in-PrintText.is (declares_none _ _ (declared_of_print_text _))
 
 pub declare_stmt-returns-in-Assert : goal.declare_stmt-returns-in-Assert
-declare_stmt-returns-in-Assert t c = rw c.in-Assert.is (declares_none _ _ (declared_of_assert _))
+declare_stmt-returns-in-Assert t c = rw c.in-Assert.is (declares_none _ _ (declared_of_assert _ _))
 
 pub declare_stmt-returns-in-Halt : goal.declare_stmt-returns-in-Halt
-declare_stmt-returns-in-Halt t c = rw c.in-Halt.is (declares_none _ _ (declared_of_halt _))
+declare_stmt-returns-in-Halt t c = rw c.in-Halt.is (declares_none _ _ (declared_of_halt _ _))

@@ -1,5 +1,5 @@
 use Rattle.std.proofs.Common.{take, flat_map}
-use Rattle.sl_plain.specs.Plain.{declared_in}
+use Rattle.sl_plain.specs.Program.{declared_in}
 use Rattle.sl_plain.specs.Numbering.{Declares}
 use Rattle.sl_plain.proofs.lowering.declarations.+declare.Given as goal
 

@@ -1,8 +1,8 @@
-use Rattle.std.proofs.Common.{take, List}
-use Rattle.sl_plain.specs.Plain.{Declared}
-use Rattle.sl_plain.specs.Numbering.{AreNumbered, IsLoweredTo, lowered_all}
+use Rattle.std.proofs.Common.{take, flat_map}
+use Rattle.sl_plain.specs.Reach.{AreLines, lines_in}
+use Rattle.sl_plain.specs.Numbering.{IsBy, lowered_all}
 use Rattle.sl_plain.proofs.lowering.statements.+lower.Given as goal
 
 -- the statements so far were lowered
 abbrev pub invariant-lower_block-loop-stmt : goal.invariant-lower_block-loop-stmt
-invariant-lower_block-loop-stmt l = (names : List Declared) → AreNumbered names l.variables → IsLoweredTo (lowered_all names (take l.stmt-index l.stmts)) l.taken l.line l.low l.behind
+invariant-lower_block-loop-stmt l = IsBy l.variables (λ names. lowered_all names (take l.stmt-index l.stmts) l.taken) l.low × AreLines (flat_map lines_in (take l.stmt-index l.stmts))

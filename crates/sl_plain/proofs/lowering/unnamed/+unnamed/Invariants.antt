@@ -1,5 +1,5 @@
 use Rattle.std.proofs.Common.{◌≡◌, map, take}
-use Rattle.sl_plain.specs.Plain.{deepest}
+use Rattle.sl_plain.specs.Program.{deepest}
 use Rattle.sl_plain.specs.Lowered.{unnamed_in}
 use Rattle.sl_plain.proofs.lowering.unnamed.+unnamed.Given as goal
 

@@ -1,5 +1,5 @@
 use Rattle.std.proofs.Common.{rules}
-use Rattle.sl_plain.specs.LineReading.{is_reserved}
+use Rattle.sl_plain.specs.Names.{is_reserved}
 use Rattle.sl_plain.proofs.reading.names.is_reserved.Goals as goal
 
 pub returns : goal.returns

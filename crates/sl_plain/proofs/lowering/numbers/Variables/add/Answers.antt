@@ -1,5 +1,5 @@
 use Rattle.std.proofs.Common.{◌≡◌, None, true, refl, sym, ◌∙◌, arith, is_some, ◌+◌}
-use Rattle.sl_plain.specs.Plain.{Declared}
+use Rattle.sl_plain.specs.Program.{Declared}
 use Rattle.sl_plain.proofs.Statements.{there}
 use Rattle.sl_plain.proofs.Numbered.{added_known, added_new, updates_bytes}
 use Rattle.sl_plain.proofs.lowering.numbers.Variables.add.Goals as goal

@@ -1,6 +1,0 @@
-pub mod Between
-pub mod Cuts
-pub mod Decisions
-pub mod Finds
-pub mod Numbers
-pub mod Wrapped
