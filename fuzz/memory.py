@@ -2,7 +2,6 @@
 import os
 import resource
 
-from product import PROGRAM
 from streams import FOOT, HEAD
 
 # Programs, with the words that are called for them, and what these answer where memory is enough
@@ -11,6 +10,8 @@ CALLS = [
     ("written", '    println("hello")\n    return 0\n', ["emit", "-o", "q", "written"], None),
     ("halts", "    var x: Z = 9223372036854775807\n    x = x + 1\n    return 0\n", ["run", "halts"], (b"", 66, b"halt Range halts:6\n")),
     ("turns", "    while (F) {}\n    return 0\n", ["run", "--turns", "1", "turns"], (b"", 67, b"turns spent\n")),
+    ("checked", "    val b: Z = 1\n    while (b > 2) { println(b) }\n    return 0\n", ["check", "checked"], (b"accepted\n", 0, b"")),
+    ("broken", "    val b: Z = ((1 + 2) * 3\n    return 0\n", ["check", "broken"], (b"", 65, b"broken:6:5: G1\n")),
     ("reads", "    val b: Z = Port.get()\n    println(b)\n    return 0\n", ["run", "reads"], (b"-1\n", 0, b"")),
 ]
 SPENT = b"no memory\n"
@@ -36,7 +37,7 @@ def refuse_each(product, words, wanted, shim, later):
         if later:
             given["REFUSE_LATER"] = "1"
         product.calls += 1
-        found = product.call(PROGRAM, *words, env=given, pass_fds=[writing])
+        found = product.call(product.program, *words, env=given, pass_fds=[writing])
         os.close(writing)
         made = int(os.read(reading, 32) or b"0")
         os.close(reading)
@@ -58,7 +59,7 @@ def address_spaces(product):
     loaded = False
     for pages in range(512, 8192, 64):
         limit = pages * resource.getpagesize()
-        found = product.call(PROGRAM, "run", "prints", preexec_fn=lambda limit=limit: resource.setrlimit(resource.RLIMIT_AS, (limit, limit)))
+        found = product.call(product.program, "run", "prints", preexec_fn=lambda limit=limit: resource.setrlimit(resource.RLIMIT_AS, (limit, limit)))
         loaded = loaded or 0 <= found[1] < 127
         if loaded:
             product.calls += 1

@@ -1,5 +1,5 @@
-"""Calls slangc in a folder of its own, and counts where it did otherwise than was expected. The launcher builds the program, where it
-must, and then the program itself is called: so the streams of a call are those that it gets."""
+"""Calls slangc in a folder of its own, and counts where it did otherwise than was expected. Where no program is named, the launcher builds it,
+where it must, and then the program itself is called: so the streams of a call are those that it gets."""
 import os
 import shutil
 import subprocess
@@ -10,16 +10,18 @@ PROGRAM = os.path.join(ROOT, "crates", "sl_main", "out", "sl_main")
 
 
 class Product:
-    """slangc in a folder: what was called, how often each status was expected, and how many calls differed."""
+    """slangc in a folder: what was called, how often each answer was expected, and how many calls differed."""
 
-    def __init__(self, folder, seed):
+    def __init__(self, folder, seed, program=None):
         self.folder = folder
         self.seed = seed
+        self.program = os.path.abspath(program or PROGRAM)
         self.calls = 0
         self.differed = 0
-        self.statuses = {}
-        # standard error also says so where the launcher builds
-        self.compare("the launcher without words", self.call(LAUNCHER)[:2], (b"", 64))
+        self.answers = {}
+        if program is None:
+            # standard error also says so where the launcher builds
+            self.compare("the launcher without words", self.call(LAUNCHER)[:2], (b"", 64))
 
     def call(self, *command, data=b"", **streams):
         """Standard output, the status and standard error of a command. A status below 0 is a signal."""
@@ -31,7 +33,7 @@ class Product:
 
     def slangc(self, *words, data=b"", **streams):
         self.calls += 1
-        return self.call(PROGRAM, *words, data=data, **streams)
+        return self.call(self.program, *words, data=data, **streams)
 
     def write(self, name, data):
         with open(os.path.join(self.folder, name), "wb") as file:
@@ -45,12 +47,29 @@ class Product:
         except FileNotFoundError:
             return None
 
-    def compare(self, what, found, wanted, kept=None):
-        """Counts what was wanted, and tells it where something else was found. The file `kept` is then copied to this folder."""
-        status = "0 to 63" if 0 <= wanted[1] <= 63 else str(wanted[1])
-        self.statuses[status] = self.statuses.get(status, 0) + 1
+    def remove(self, name):
+        """Removes a file, where it is there."""
+        if self.read(name) is not None:
+            os.remove(os.path.join(self.folder, name))
+
+    @staticmethod
+    def answer_of(wanted):
+        """What kind of answer is wanted: by its status, by the rule that is broken, or accepted."""
+        status = wanted[1]
+        if status == 65 and len(wanted) > 2:
+            return "65 " + (wanted[2].split() or [b"unsaid"])[-1].decode()
+        if wanted[0] == b"accepted\n":
+            return "accepted"
+        return "0 to 63" if 0 <= status <= 63 else str(status)
+
+    def compare(self, what, found, wanted, *kept):
+        """Counts what was wanted, and tells it where something else was found. The files `kept` are then copied to this folder."""
+        answer = self.answer_of(wanted)
+        self.answers[answer] = self.answers.get(answer, 0) + 1
         if found != wanted:
             self.differed += 1
             print(f"seed {self.seed}, {what}: {found} where {wanted} was expected")
-            if kept:
-                shutil.copy(os.path.join(self.folder, kept), f"differs-{self.seed}-{self.differed}")
+            for name in kept:
+                copy = f"differs-{self.seed}-{self.differed}-{name}"
+                shutil.copy(os.path.join(self.folder, name), copy)
+                print(f"  {copy}: {self.read(name)[:1500]!r}")

@@ -50,6 +50,9 @@ def outputs_fail(product):
         emitted = product.slangc("emit", "-o", "q", name, **streams_of(kind, 1))
         product.compare(f"emit {name}, output {kind}", emitted, (b"", 75, OUTPUT_FAULT))
         product.compare(f"emit {name}, output {kind}: the C stands", (b"int main(void)" in (product.read("q.c") or b""), 0), (True, 0))
+    for kind in ["full", "closed", "a broken pipe"]:
+        product.compare(f"check, output {kind}", product.slangc("check", "silent", **streams_of(kind, 1)), (b"", 75, OUTPUT_FAULT))
+        product.compare(f"check, standard error {kind}", product.slangc("check", "silent", **streams_of(kind, 2)), (b"accepted\n", 0, b""))
     refused = {64: [], 65: ["run", "/dev/null"], 72: ["run", "away"], 73: ["run", "."], 77: ["run", "silent", "silent"]}
     for (status, words), kind in itertools.product(refused.items(), ["full", "closed", "a broken pipe"]):
         wanted = (b"", status if status in (73, 77) else 75, b"")

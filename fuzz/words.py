@@ -2,8 +2,7 @@
 import os
 import re
 
-from files import answer
-from reading import broken_rule, read
+from reading import check_answer, run_answer
 
 PLAIN = """// #Sireum
 import org.sireum._
@@ -18,6 +17,8 @@ object X extends App {
   }
 }
 """
+# The option of each command, in one letter and in full
+OPTIONS = {"check": (None, None), "run": (None, "--turns"), "emit": ("-o", "-o")}
 GREATEST_TURNS = 2**63 - 1
 MOST_FILES = 255
 LONGEST = 255  # bytes of a name, in the systems' folders
@@ -25,7 +26,8 @@ DEFAULT_TURNS = 1000000000
 # The files of the folder, by their names. A name with nothing is a folder
 FILES = {
     "a": PLAIN % ("a", "a"), "b": PLAIN % ("b", "64"), "-": PLAIN % ("-", "-1"), "--": PLAIN % ("--", "0"), "-x": PLAIN % ("-x", "63"),
-    "two words": PLAIN % ("two words", "5"), "\u00e9": PLAIN % ("e", "6"), "bad": "no mark", "other": "// #Sireum\nval x = 1\n", "folder": None,
+    "two words": PLAIN % ("two words", "5"), "\u00e9": PLAIN % ("e", "6"), "bad": "no mark", "other": "// #Sireum\nval x = 1\n",
+    "open": "// #Sireum\nimport org.sireum._\nobject X {\n  val x: Z = 007\n", "built": "// #Sireum\nimport org.sireum._\nobject X\n", "folder": None,
 }
 MISSING = ["away", "a/below", "folder/away", "a" * 200]
 FAULTY = ["folder", ".", "n" * 300]
@@ -49,11 +51,15 @@ def random_word(source):
 def random_words(source):
     """A command line: any words, or what could be a command with an option and some files, with a few words changed."""
     if source.random() < 0.25:
-        return [source.choice(["run", "emit", "check", "", "Run", "-o"])] * source.randint(0, 1) + [random_word(source) for _ in range(source.randrange(6))]
+        return [source.choice(["run", "emit", "check", "check", "", "Run", "-o"])] * source.randint(0, 1) + [random_word(source) for _ in range(source.randrange(6))]
     names = [source.choice(list(FILES))] if source.random() < 0.6 else [source.choice([*FILES, *MISSING, *FAULTY]) for _ in range(source.randrange(4))]
     if source.random() < 0.02:
         names = ["a"] * source.choice([254, 255, 256, 300])
-    if source.random() < 0.5:
+    chance = source.random()
+    if chance < 0.25:
+        command = "check"
+        option = [] if source.random() < 0.9 else source.choice([["-o", "q"], ["--turns", "1"], ["--turns=1"], ["--bit-width", "64"], ["-"]])
+    elif chance < 0.6:
         command = "run"
         option = [] if source.random() < 0.3 else source.choice([["--turns", source.choice(TURNS)], ["--turns=" + source.choice(TURNS)]])
     else:
@@ -73,9 +79,9 @@ def random_words(source):
 
 def command_of(words):
     """The command that the words ask for, the value of its option, and its files, or None."""
-    if not words or words[0] not in ("run", "emit"):
+    if not words or words[0] not in OPTIONS:
         return None
-    short, option = ("-o", "-o") if words[0] == "emit" else (None, "--turns")
+    short, option = OPTIONS[words[0]]
     rest, value, names = list(words[1:]), None, []
     while rest:
         word = rest.pop(0)
@@ -86,6 +92,8 @@ def command_of(words):
         if word == "-" or (word and not word.startswith("-")):
             names.append(word)
             continue
+        if option is None:
+            return None
         if word == option:
             if not rest or (rest[0] != "-" and (rest[0] == "" or rest[0].startswith("-"))):
                 return None
@@ -99,6 +107,8 @@ def command_of(words):
         value = given
     if not 1 <= len(names) <= MOST_FILES or "" in names:
         return None
+    if words[0] == "check":
+        return "check", None, names
     if words[0] == "emit":
         return ("emit", value, names) if value is not None else None
     if value is None:
@@ -119,13 +129,12 @@ def wanted_of(product, words):
             return (b"", 73, b"folder fault\n"), None
         if FILES.get(name) is None:
             return (b"", 72, f"no file {name}\n".encode()), None
-    for name in names:
-        if broken_rule(FILES[name].encode()):
-            return (b"", 65, f"{name}:1:1: {broken_rule(FILES[name].encode())}\n".encode()), None
-    if len(names) > 1 or not read(FILES[names[0]].encode()):
-        return (b"", 77, b"not built\n"), None
+    files = [(name, FILES[name].encode()) for name in names]
+    checked = check_answer(files)
+    if checked[1] != 0 or command == "check":
+        return checked, None
     if command == "run":
-        return answer(FILES[names[0]].encode(), names[0], b"", value), None
+        return run_answer(files, b"", value), None
     written = value + ".c"
     below = value.rpartition("/")[0]
     if (below and FILES.get(below, "") is not None) or len(written.encode()) > LONGEST:
