@@ -58,7 +58,7 @@ pub record Read (ts rest : List Spelled) : Type 0 where
   pub is : ts ≡ used ++ rest
 
 -- a reader that stopped, or is held, read a front
-held_front : {X : Type 0} (l : X → List Spelled → Type 0) (ts rest : List Spelled) (f : Found Spelled X) → IsRead l ts f → left_of f ≡ rest → (used : List Spelled) × (ts ≡ used ++ rest) × IsFront l used rest
+pub held_front : {X : Type 0} (l : X → List Spelled → Type 0) (ts rest : List Spelled) (f : Found Spelled X) → IsRead l ts f → left_of f ≡ rest → (used : List Spelled) × (ts ≡ used ++ rest) × IsFront l used rest
 held_front l ts rest (Done x left) (used, e, front, w) same = (used, e ∙ ap (λ z. used ++ z) same, subst (IsFront l used) same front)
 held_front l ts rest (Stopped left) (used, e, front, none) same = (used, e ∙ ap (λ z. used ++ z) same, subst (IsFront l used) same front)
 
@@ -96,8 +96,12 @@ deep_here ts rest h p = by (held_front FileWithin ts rest (found_tree Limited Fi
     by (used, e, front) (us, d, other) = go (cut used rest us (left_of (found_tree Unlimited File_of ts)) (sym e ∙ d))
       where
         go : Cut used rest us (left_of (found_tree Unlimited File_of ts)) → (used : List Spelled) × (ts ≡ used ++ rest) × Begins FileWithin used × IsTooDeep used rest
-        go (inl (k, c, a, s)) =
-            (used, e, front.begins, (k, c ++ left_of (found_tree Unlimited File_of ts), s, front_of AnyFile (used ++ k ∷ []) c (subst (Begins AnyFile) (a ∙ sym (one_more used k c)) other.begins), front.ends k (c ++ left_of (found_tree Unlimited File_of ts)) s))
+        go (inl (k, c, a, s)) = (
+          used,
+          e,
+          front.begins,
+          inl (k, c ++ left_of (found_tree Unlimited File_of ts), s, front_of AnyFile (used ++ k ∷ []) c (subst (Begins AnyFile) (a ∙ sym (one_more used k c)) other.begins), front.ends k (c ++ left_of (found_tree Unlimited File_of ts)) s),
+        )
         go (inr (inl (a, s))) = absurd (omega (arith, ap length s))
         go (inr (inr (k, c, a, s))) = absurd (omega (arith, ap length s, length-append c rest))
 
@@ -233,7 +237,7 @@ before_library ts used rest h e (some, q, vs, ws, f, r, k, tail, m) =
 -- What is answered.
 
 -- the same file, with its line feeds
-with_feeds : {limit : Limit} {x : File} {ts : List Spelled} (feeds : List ℕ) → IsFile limit [] x ts → IsFile limit feeds (record { «package» = x.package; imports = x.imports; decls = x.decls; span = x.span; feeds = feeds }) ts
+pub with_feeds : {limit : Limit} {x : File} {ts : List Spelled} (feeds : List ℕ) → IsFile limit [] x ts → IsFile limit feeds (record { «package» = x.package; imports = x.imports; decls = x.decls; span = x.span; feeds = feeds }) ts
 with_feeds feeds (file_of p l i e r) = file_of p l i e (ap (λ (y : File). record { «package» = y.package; imports = y.imports; decls = y.decls; span = y.span; feeds = feeds }) r)
 
 -- what a reader left, and in front of that it read something
@@ -249,7 +253,7 @@ module _ (file : ℕ) (bytes : List ℕ) (tokens : List Token) where
   no_tokens : (i : ℕ) → behind bytes tokens i ≡ [] → i < length tokens → ⊥
   no_tokens i e lt = let n : length tokens - i ≡ 0 = sym (behind_length bytes tokens i) ∙ ap length e in omega arith
 
-  abbrev All : List Spelled
+  abbrev pub All : List Spelled
   All = behind bytes tokens 0
 
   -- a rule of a number is broken at an index
@@ -285,7 +289,7 @@ module _ (file : ℕ) (bytes : List ℕ) (tokens : List Token) where
   answered_package fault.Mem h = tt
 
   -- what a reader of a name read
-  package_read : (path : List (List ℕ)) (mid : List Spelled) → IsDone (λ b. found_tree b Package All) path mid → (us : List Spelled) × (All ≡ us ++ mid) × IsPackage path us
+  pub package_read : (path : List (List ℕ)) (mid : List Spelled) → IsDone (λ b. found_tree b Package All) path mid → (us : List Spelled) × (All ≡ us ++ mid) × IsPackage path us
   unfolding found_tree
   package_read path mid h =
       let d = as_done bare (read Unlimited Package All) path mid (h Unlimited) in
@@ -294,7 +298,7 @@ module _ (file : ℕ) (bytes : List ℕ) (tokens : List Token) where
       by : (v : T_of Package) → IsRead (spells None Package) All (Done v mid) → v.0 ≡ path → (us : List Spelled) × (All ≡ us ++ mid) × IsPackage path us
       by v (us, e, front, w) same = (us, e, subst (λ z. IsPackage z us) same w.0)
 
-  library_read : (mid rest : List Spelled) → IsDone (λ b. found_tree b Library mid) tt rest → (us : List Spelled) × (mid ≡ us ++ rest) × IsLibrary us
+  pub library_read : (mid rest : List Spelled) → IsDone (λ b. found_tree b Library mid) tt rest → (us : List Spelled) × (mid ≡ us ++ rest) × IsLibrary us
   unfolding found_tree
   library_read mid rest h =
       let d = as_done bare (read Unlimited Library mid) tt rest (h Unlimited) in
@@ -304,7 +308,7 @@ module _ (file : ℕ) (bytes : List ℕ) (tokens : List Token) where
       by v (us, e, front, w) = (us, e, w.0)
 
   -- where the import stops, a front of it was read, and it goes on
-  library_front : (mid rest : List Spelled) → ((b : Bound) → found_tree b Library mid ≡ Stopped rest) → (us : List Spelled) × (mid ≡ us ++ rest) × (k : Spelled) × (more : List Spelled) × IsLibrary (us ++ k ∷ more)
+  pub library_front : (mid rest : List Spelled) → ((b : Bound) → found_tree b Library mid ≡ Stopped rest) → (us : List Spelled) × (mid ≡ us ++ rest) × (k : Spelled) × (more : List Spelled) × IsLibrary (us ++ k ∷ more)
   unfolding found_tree
   library_front mid rest h = by (subst (IsRead (spells None Library) mid) (as_stopped bare (read Unlimited Library mid) rest (h Unlimited)) (reads_tree Unlimited Library mid))
     where

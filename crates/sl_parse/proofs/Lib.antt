@@ -63,3 +63,5 @@ pub mod BrokenDecls
 -- which expressions are numbers, and which are `T` or `F`
 pub mod Noting
 pub mod OneAnswer
+-- each file has an answer
+pub mod EachAnswer

@@ -32,7 +32,8 @@ goes_not_on number used rest k more broken e (x, tail, w) = by broken
     any = (x, tail, wide_file (Some 64) [] x ((used ++ k ∷ []) ++ tail) w)
 
     deep : IsTooDeep used rest → ⊥
-    deep (head, behind, is, begins, none) = let same : k ≡ head = cc in none (subst (λ z. Begins FileWithin (used ++ z ∷ [])) same (x, tail, w))
+    deep (inl (head, behind, is, begins, none)) = let same : k ≡ head = cc in none (subst (λ z. Begins FileWithin (used ++ z ∷ [])) same (x, tail, w))
+    deep (inr (empty, y, v, none)) = cc (empty, e)
 
     by : IsBroken number used rest → ⊥
     by (inl h) = deep h.1
@@ -47,7 +48,8 @@ no_longer number used rest k c more broken e begins =
 
 -- at one place one rule is broken
 deep_or_wrong : (used rest : List Spelled) → IsTooDeep used rest → IsWrong used rest → ⊥
-deep_or_wrong used rest (k, more, e, begins, none) wrong = wrong.0.ends k more e begins
+deep_or_wrong used rest (inl (k, more, e, begins, none)) wrong = wrong.0.ends k more e begins
+deep_or_wrong used rest (inr (empty, x, w, none)) wrong = wrong.1 empty x w
 
 one_number : (number other : ℕ) (used rest : List Spelled) → IsBroken number used rest → IsBroken other used rest → number ≡ other
 one_number number other used rest (inl h) (inl g) = h.0 ∙ sym g.0
@@ -75,7 +77,8 @@ not_at_end number used x w broken = by broken
     any = wide_file (Some 64) [] x used w
 
     by : IsBroken number used [] → ⊥
-    by (inl (is, (k, more, e, begins, none))) = absurd cc
+    by (inl (is, inl (k, more, e, begins, none))) = absurd cc
+    by (inl (is, inr (empty, y, v, none))) = none x w
     by (inr (inl h)) = h.1.1 refl x any
     by (inr (inr h)) = h.1.1 refl x any
 

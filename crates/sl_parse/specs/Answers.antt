@@ -27,8 +27,16 @@ abbrev pub FileWithin : File → List Spelled → Type 0
 FileWithin x ts = IsFile (Some 64) [] x ts
 
 -- a file goes on with the next token, and each that does so is too deep
+abbrev pub GoesTooDeep : (used rest : List Spelled) → Type 0
+GoesTooDeep used rest = (k : Spelled) × (more : List Spelled) × (rest ≡ k ∷ more) × Begins AnyFile (used ++ k ∷ []) × ¬ Begins FileWithin (used ++ k ∷ [])
+
+-- the tokens are those of a file, which ends there, and each such file is too deep
+abbrev pub EndsTooDeep : (used rest : List Spelled) → Type 0
+EndsTooDeep used rest = (rest ≡ []) × (x : File) × AnyFile x used × ((y : File) → ¬ FileWithin y used)
+
+-- some file has these tokens up to the next one, or to its end, which counts as a last token, and each such file is too deep
 abbrev pub IsTooDeep : (used rest : List Spelled) → Type 0
-IsTooDeep used rest = (k : Spelled) × (more : List Spelled) × (rest ≡ k ∷ more) × Begins AnyFile (used ++ k ∷ []) × ¬ Begins FileWithin (used ++ k ∷ [])
+IsTooDeep used rest = GoesTooDeep used rest ⊎ EndsTooDeep used rest
 
 -- no file goes on with the next token, however deep; or there is none, and these are no file
 abbrev pub IsWrong : (used rest : List Spelled) → Type 0

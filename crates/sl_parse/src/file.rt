@@ -65,12 +65,13 @@ fn feeds(alloc: Global, bytes: &[u8]) -> Result<Row<u32>, Mem>
 /// Spans are in bytes and have the file's number as its tokens have it. The tree's `feeds` are the places of the bytes 10, in order.
 ///
 /// Errors, of which the one at the first token is told: rule G6 at a token with which files go on, but none whose types, expressions and
-/// blocks nest at most 64 deep; rule G2 at a token that differs from `import org.sireum._` behind the package or at the file's beginning;
-/// rule G1 at any other token from which no file goes on, or with an empty span at the end of the bytes, where the file ends too early.
-/// Where none of these is broken, the tree is tested, and of all that it breaks the one with the least place is told, and there the least
-/// number: rule G3 of notes, at a note or at a declaration without the note that it asks for; rule G4 at the left side of an assignment
-/// that isn't made of names, `this`, parentheses, selections and applications to one argument; rule G5 at a statement that is an
-/// expression but no application, where it isn't the only one of a case of a match expression. Last, want of memory.
+/// blocks nest at most 64 deep, where the end of the bytes counts as a last token; rule G2 at a token that differs from
+/// `import org.sireum._` behind the package or at the file's beginning; rule G1 at any other token from which no file goes on, or with an
+/// empty span at the end of the bytes, where the file ends too early. Where none of these is broken, the tree is tested, and of all that it
+/// breaks the one with the least place is told, and there the least number: rule G3 of notes, at a note or at a declaration without the
+/// note that it asks for; rule G4 at the left side of an assignment that isn't made of names, `this`, parentheses, selections and
+/// applications to one argument; rule G5 at a statement that is an expression but no application, where it isn't the only one of a case of
+/// a match expression. Last, want of memory.
 pub fn parse(alloc: Global, file: u32, bytes: &[u8], tokens: &[Token]) -> Result<File, Fault>
     requires small { length bytes.now ≤ 4194304 }
     ensures { Parsed file bytes.now tokens.now result }

@@ -2,7 +2,7 @@
 //! it breaks and where. There is no other code here. How a table is written stands in `rows`, how a tree is printed in `printing`.
 //!
 //! The answers in the tables come from Earley readers, one of files and one of all else. They were written apart from the product, from
-//! the definition of well-shaped trees, and aren't kept in the repository.
+//! the definition of well-shaped trees, and aren't kept in the repository; that of fuzz/grammar.py is another one.
 #![tactic(auto)]
 
 #[cfg(test)]

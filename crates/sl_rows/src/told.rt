@@ -86,7 +86,9 @@ fn is_run(alloc: Global, source: &[u8], out: &str, end: &str) -> Result<bool, Fa
         Some((column, line)) => (column, format!(in alloc; "{line}\n")?),
         None => (end, String::new(alloc)),
     };
-    let code = number(column)? as u8;
+    let Ok(code) = u8::try_from(number(column)?) else {
+        return Err("no status".into());
+    };
     let out = fed(alloc, out)?;
     let answer = (code, out.as_bytes(), line.as_bytes());
     let files: [(&str, &[u8]); 1] = [("a.scala", source)];

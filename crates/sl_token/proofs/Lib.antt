@@ -18,3 +18,5 @@ pub mod Broken
 pub mod WordLengths
 -- what is answered of a file is determined
 pub mod OneAnswer
+-- each file has an answer
+pub mod EachAnswer

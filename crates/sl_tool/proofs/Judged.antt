@@ -1,6 +1,6 @@
--- There is one verdict on sources at most.
+-- There is just one verdict on sources.
 use Rattle.std.proofs.Common.{◌≡◌, ℕ, List, [], ◌∷◌, ◌++◌, Some, refl, sym, ap, ap₂, ◌∙◌, subst, inl, inr}
-use Rattle.std.specs.Prelude.{Ok, Err}
+use Rattle.std.specs.Prelude.{Option, None, Result, Ok, Err, ◌⊎◌}
 use Rattle.sl_text.specs.declared.token.Token.{Token}
 use Rattle.sl_text.specs.declared.fault.Broken.{Broken}
 use Rattle.sl_text.specs.declared.fault.Fault.TheVariants as fault
@@ -8,12 +8,16 @@ use Rattle.sl_tree.specs.declared.tree.File.{File}
 use Rattle.sl_outside.specs.Folder.{Contents}
 use Rattle.sl_parse.specs.Answers.{Parsed}
 use Rattle.sl_words.specs.Words.{Command, files_of, Reads}
+use Rattle.sl_words.specs.WordsReading.{command_of}
 use Rattle.sl_words.proofs.Reading.{command_of_reading}
 use Rattle.sl_tool.specs.Accepting.{HasTree, BreaksGrammar, IsFirstBroken}
 use Rattle.sl_tool.specs.SourceFiles.{SourceFile, AreSources, only_file, HaveTrees, IsFirstBrokenOf, Verdict, Breaks, Trees, Judged, sources_of}
 use Rattle.sl_tool.specs.Answer.{AsksFor, IsVerdict}
+use Rattle.sl_token.specs.Cut.{AreTokens, IsFirstFault}
 use Rattle.sl_token.proofs.OneAnswer.{one_tokens, one_fault, tokens_or_fault}
 use Rattle.sl_parse.proofs.OneAnswer.{one_tree, one_broken, tree_or_broken}
+use Rattle.sl_token.proofs.EachAnswer.{each_answer as each_cut}
+use Rattle.sl_parse.proofs.EachAnswer.{each_answer as each_parsed}
 use Rattle.sl_tool.proofs.Sources.{sources_found}
 
 module _ {file : ℕ} {bytes : List ℕ} where
@@ -79,6 +83,31 @@ one_verdict sources (Breaks s a) (Trees ys) h k = absurd (trees_or_broken source
 one_verdict sources (Trees xs) (Breaks t b) h k = absurd (trees_or_broken sources xs t b h k)
 one_verdict sources (Trees xs) (Trees ys) h k = ap Trees (same_trees sources xs ys h k)
 
+-- a file has a tree, or breaks a rule first
+tree_or_rule : (file : ℕ) (bytes : List ℕ) → ((tree : File) × HasTree file bytes tree) ⊎ ((broken : Broken) × IsFirstBroken file bytes broken)
+tree_or_rule file bytes = by (each_cut file bytes)
+  where
+    parsed : (tokens : List Token) → AreTokens file bytes tokens → ((tree : File) × Parsed file bytes tokens (Ok tree)) ⊎ ((broken : Broken) × Parsed file bytes tokens (Err (fault.Broken broken)))
+        → ((tree : File) × HasTree file bytes tree) ⊎ ((broken : Broken) × IsFirstBroken file bytes broken)
+    parsed tokens cut (inl (tree, is)) = inl (tree, record { tokens = tokens; cut = cut; parsed = is })
+    parsed tokens cut (inr (broken, is)) = inr (broken, inr (record { tokens = tokens; cut = cut; parsed = is }))
+
+    by : ((tokens : List Token) × AreTokens file bytes tokens) ⊎ ((broken : Broken) × IsFirstFault file bytes broken) → ((tree : File) × HasTree file bytes tree) ⊎ ((broken : Broken) × IsFirstBroken file bytes broken)
+    by (inl (tokens, cut)) = parsed tokens cut (each_parsed file bytes tokens)
+    by (inr (broken, first)) = inr (broken, inl first)
+
+-- there is a verdict
+pub each_verdict : (sources : List SourceFile) → (verdict : Verdict) × Judged sources verdict
+each_verdict [] = (Trees [], tt)
+each_verdict (source ∷ sources) = by (tree_or_rule only_file source.bytes) (each_verdict sources)
+  where
+    by : ((tree : File) × HasTree only_file source.bytes tree) ⊎ ((broken : Broken) × IsFirstBroken only_file source.bytes broken) → (verdict : Verdict) × Judged sources verdict
+        → (verdict : Verdict) × Judged (source ∷ sources) verdict
+    by (inr (broken, first)) others = (Breaks source broken, ([], sources, [], refl, tt, first))
+    by (inl (tree, has)) (Trees trees, have) = (Trees (tree ∷ trees), (has, have))
+    by (inl (tree, has)) (Breaks other broken, (earlier, later, trees, order, have, first)) =
+        (Breaks other broken, (source ∷ earlier, later, tree ∷ trees, ap (λ z. source ∷ z) order, (has, have), first))
+
 -- a verdict on the sources that the words ask for is the verdict on the files
 pub verdict_is : (words : List (List ℕ)) (files : Contents) (sources : List SourceFile) (v : Verdict) → AsksFor words files sources → Judged sources v → IsVerdict words files v
 verdict_is words files sources v (command, reads, are) judged others (other, asks, have) =
@@ -89,3 +118,25 @@ verdict_is words files sources v (command, reads, are) judged others (other, ask
 -- and the verdict on the files is that one
 pub is_verdict : (words : List (List ℕ)) (files : Contents) (sources : List SourceFile) (v w : Verdict) → AsksFor words files sources → Judged sources v → IsVerdict words files w → w ≡ v
 is_verdict words files sources v w asks judged is = one_verdict sources w v (is sources asks) judged
+
+-- there is a verdict on what any words ask for
+pub has_verdict : (words : List (List ℕ)) (files : Contents) → (verdict : Verdict) × IsVerdict words files verdict
+has_verdict words files = by (command_of words) refl
+  where
+    found : (command : Command) → command_of words ≡ Some command → (held : Result (List SourceFile) (List ℕ)) → sources_of files (files_of command) ≡ held → (verdict : Verdict) × IsVerdict words files verdict
+    found command e held f = go held f
+      where
+        same : (others : List SourceFile) → AsksFor words files others → held ≡ Ok others
+        same others (other, reads, have) =
+            let one : command ≡ other = let s : Some command ≡ Some other = sym e ∙ command_of_reading words other reads in cc in
+            sym f ∙ (ap (λ c. sources_of files (files_of c)) one ∙ sources_found files (files_of other) others have)
+
+        go : (result : Result (List SourceFile) (List ℕ)) → sources_of files (files_of command) ≡ result → (verdict : Verdict) × IsVerdict words files verdict
+        go (Ok sources) g =
+            let (verdict, judged) = each_verdict sources in
+            (verdict, λ others asks. (let all : sources ≡ others = let s : Ok sources ≡ Ok others = sym g ∙ (f ∙ same others asks) in cc in subst (λ z. Judged z verdict) all judged))
+        go (Err name) g = (Trees [], λ others asks. absurd (let s : Err name ≡ Ok others = sym g ∙ (f ∙ same others asks) in cc))
+
+    by : (o : Option Command) → command_of words ≡ o → (verdict : Verdict) × IsVerdict words files verdict
+    by None e = (Trees [], λ others asks. absurd (let s : None ≡ Some asks.0 = sym e ∙ command_of_reading words asks.0 asks.1 in cc))
+    by (Some command) e = found command e (sources_of files (files_of command)) refl

@@ -1,5 +1,5 @@
--- Which sources are accepted: those that have a tree. The rules L speak of the bytes of a source and of the tokens that they are cut
--- into, the rules G of the tree of these tokens. So where a rule L is broken, it comes before every rule G.
+-- Which sources have a tree, and which rule the others break first. The rules L speak of the bytes of a source and of the tokens that
+-- they are cut into, the rules G of the tree of these tokens. So where a rule L is broken, it comes before every rule G.
 use Rattle.std.specs.Prelude.{ℕ, List, ◌⊎◌, Result, Ok, Err}
 use Rattle.sl_text.specs.declared.token.Token.{Token}
 use Rattle.sl_text.specs.declared.fault.Broken.{Broken}

@@ -1,6 +1,6 @@
 -- The tool: its definitions, in reading order.
 
--- which sources are accepted (`HasTree`), and which rule one breaks first, and where (`IsFirstBroken`)
+-- which sources have a tree (`HasTree`), and which rule one breaks first, and where (`IsFirstBroken`)
 pub mod Accepting
 -- the files of a command as sources (`AreSources`), and what comes of reading them (`Verdict`, `Judged`)
 pub mod SourceFiles

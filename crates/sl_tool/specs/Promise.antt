@@ -170,7 +170,7 @@ pub record Comes (words : List (List ℕ)) (files : Contents) (input : List ℕ)
 -- Faults --------------------------------------------------------------------------------------------------------------
 
 -- Where a count rose, the status shows it: first the folder's, then the input's, then those of the outputs. A fault of `note`
--- alone leaves the statuses whose own line it refused: that of a source that isn't built yet, and `Memory`
+-- alone leaves the statuses whose own line it refused: that of sources that aren't built yet, and `Memory`
 pub record HidesNoFault (before after : Outside) (status : Status) : Type 0 where
   pub folder : before.folder.faults < after.folder.faults → status ≡ FolderFault
   pub input : ¬ FolderRose before after → before.input.faults < after.input.faults → status ≡ InputFault
@@ -380,7 +380,7 @@ RefusesLine words files input before after =
     × IsLineOf words files input first line × Put line before between (Err (record {})) × Tried output_fault_line between after
 
 -- What `note` got, by the status: each line by one call. A line of 64 to 67, 69 or 72 was put whole; the line of a fault, of want of memory
--- or of a source that isn't built was tried, whatever came of it
+-- or of sources that aren't built was tried, whatever came of it
 abbrev pub Noted : List (List ℕ) → Contents → List ℕ → Outside → Outside → Status → Type 0
 Noted words files input before after (Exit value) = after.note ≡ before.note
 Noted words files input before after Halted = (line : List ℕ) × IsLineOf words files input Halted line × Put line before.note after.note (Ok tt)

@@ -58,7 +58,7 @@ pub data Verdict : Type 0 where
   -- all have trees
   Trees : (trees : List File) → Verdict
 
--- this comes of reading these sources. There is one such verdict at most (`one_verdict` of proofs/Judged.antt)
+-- this comes of reading these sources. There is just one such verdict (`one_verdict` and `each_verdict` of proofs/Judged.antt)
 abbrev pub Judged : List SourceFile → Verdict → Type 0
 Judged sources (Breaks source broken) = IsFirstBrokenOf sources source broken
 Judged sources (Trees trees) = HaveTrees sources trees

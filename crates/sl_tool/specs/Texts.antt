@@ -72,6 +72,6 @@ output_fault_line = codes "output fault\n"
 abbrev pub no_memory_line : List ℕ
 no_memory_line = codes "no memory\n"
 
--- 77: the source isn't built yet
+-- 77: the sources aren't built yet
 abbrev pub not_built_line : List ℕ
 not_built_line = codes "not built\n"

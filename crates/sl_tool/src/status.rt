@@ -4,11 +4,11 @@ ghost use Rattle.sl_tool.specs.Answer.{HasExitValue, code_of, status_of};
 /// How a call of the tool ended.
 #[derive(Clone, Copy, Debug, PartialEq, Eq)]
 pub enum Status {
-    /// A run ended with this exit value, from 0 to 63.
+    /// A run ended with this exit value, from 0 to 63; or, with 0, C was written or files were accepted.
     Exit(u8),
     /// The words have no reading.
     Usage,
-    /// The sources break a rule.
+    /// A source breaks a rule.
     Broken,
     /// The run ended in a halt.
     Halted,
@@ -32,7 +32,7 @@ pub enum Status {
     SinkFault,
     /// An allocation was refused.
     Memory,
-    /// The sources have forms that are not built yet.
+    /// The sources have trees, which aren't one plain tree.
     NotBuilt,
 }
 

@@ -38,7 +38,7 @@ fn try_line<N: Sink>(note: &mut N, status: Status, line: &[u8]) -> Status
     status
 }
 
-/// Puts the line of a status from 64 to 72. Where it is refused, the status is that of a fault of an output.
+/// Puts the line of a status of 64 to 67, 69 or 72. Where it is refused, the status is that of a fault of an output.
 fn put_line<N: Sink>(note: &mut N, status: Status, line: &[u8]) -> Status
     ensures { Tells line.now status
         (sink_state (N.held note.old) (N.faults note.old) (N.calls note.old))

@@ -16,8 +16,9 @@ use sl_text::Mem;
 use std::alloc::Global;
 
 /// The command that the words ask for: `run` with 1 to 255 FILEs and at most one option `--turns N`, `emit` with as many FILEs and one
-/// option `-o NAME`, in any order, or `check` with as many FILEs and no option. N is 0 to 2^63 - 1 in decimal, and 1000000000 where the option isn't there. docs/command-line.md says
-/// how options and files are told apart. Where the first word is no command it takes no memory.
+/// option `-o NAME`, in any order, or `check` with as many FILEs and no option. N is 0 to 2^63 - 1 in decimal, and 1000000000 where the
+/// option isn't there. docs/command-line.md says how options and files are told apart. Where the first word is no command it takes no
+/// memory.
 pub fn read_words(alloc: Global, words: &[String]) -> Result<Option<Command<'_>>, Mem>
     ensures exact { IfOk result (λ found. MatchOption found (HasNoReading (map string_bytes words.now)) (λ command. Reads (map string_bytes words.now) (command_seen command))) }
     ensures read { IfOk result (λ found. command_of (map string_bytes words.now) ≡ option_map command_seen found) }
